@@ -1,13 +1,21 @@
 -- What the exit status 0 of a build says.
-use Rattle.std.specs.Prelude.{◌≡◌, ◌⊎◌, ◌^◌, ◌-◌, ℕ, false, List, [], ◌∷◌}
+use Rattle.std.specs.Prelude.{◌≡◌, ◌⊎◌, ◌^◌, ◌-◌, ℕ, Bool, false, List, [], ◌∷◌, Option, Some}
 use Rattle.std.specs.Option.{unwrap_or}
 use Rattle.plan_scope.specs.Scopes.{Text}
 use Rattle.plan_scope.specs.Loading.{FileContents, IsMissing, PathSet}
 use Rattle.plan_machine.specs.Limits.{Limits}
 use Rattle.plan_lanes.specs.Journals.{Rule}
-use Rattle.plan_options.specs.Saying.{failures, is_dry_run, jobs, last_value, targets}
+use Rattle.plan_options.specs.Saying.{failures, is_dry_run, jobs, last_value, targets, verbosity}
 use Rattle.plan_options.specs.declared.argument.Argument.{Argument}
+use Rattle.plan_options.specs.declared.argument.Flag.{Flag}
+use Rattle.plan_options.specs.declared.argument.Flag.TheVariants as flag
 use Rattle.plan_options.specs.declared.argument.Setting.TheVariants as setting
+use Rattle.plan_progress.specs.BuildLines.{TellsBuild}
+use Rattle.plan_progress.specs.declared.build_lines.BuildLines.{BuildLines}
+use Rattle.plan_progress.specs.declared.display.Display.{Display}
+use Rattle.plan_progress.specs.declared.style.Style.{Style}
+use Rattle.plan_progress.specs.declared.style.Style.TheVariants as style
+use Rattle.plan_commands.specs.Showing.{Shown, by_format}
 use Rattle.plan_commands.specs.Building.{Asked, Builds, Stops, asked, exit_status}
 use Rattle.plan_commands.specs.Images.{SinkState}
 use Rattle.plan_commands.specs.declared.building.Done.{Done}
@@ -29,6 +37,24 @@ limits_of line default = record { jobs = unwrap_or (jobs line) default; keep = f
 abbrev pub asked_by : List Argument → (default : ℕ) → Asked
 asked_by line default = asked (manifest_in line) (limits_of line default) (targets line)
 
+-- How commands are shown: by their labels, or as the last option for verbosity says.
+abbrev pub style_of : Option Flag → Style
+style_of (Some flag.Verbose) = style.Commands
+style_of (Some flag.Quiet) = style.Failures
+style_of other = style.Labels
+
+abbrev pub style_in : List Argument → Style
+style_in line = style_of (verbosity line)
+
+-- How the text of a build is shown: commands in this style, and perhaps on a terminal.
+abbrev pub display_in : List Argument → Bool → Display
+display_in line on_terminal = record { style = style_in line; on_terminal = on_terminal }
+
+-- Runs are shown as the text of a build, in this way. An H gives the outputs of commands; `taken` says which ones.
+abbrev pub as_build : (H : Type 0) → (H → List ℕ → Option (List ℕ) → Type 0) → Display → Shown
+as_build H taken display =
+    by_format (λ (f : BuildLines H). f.display) (λ (f : BuildLines H). TellsBuild (taken f.outputs.now) f.display f.counts f.line_open) display
+
 -- A manifest may have any contents, and reading it may fail.
 abbrev pub any_contents : FileContents
 any_contents path bytes = Unit {0}
@@ -37,29 +63,29 @@ abbrev pub any_path : PathSet
 any_path path = Unit {0}
 
 -- A build ended in this way.
-pub record Ended (rule : Rule) (a : Asked) (done : Done) : Type 0 where
+pub record Ended (shown : Shown) (rule : Rule) (a : Asked) (done : Done) : Type 0 where
   pub before : SinkState
   pub after : SinkState
-  pub built : Builds any_contents rule a before after done
+  pub built : Builds any_contents shown rule a before after done
 
 -- A build was refused because one of its targets is unknown.
-pub record HasUnknownTarget (rule : Rule) (a : Asked) : Type 0 where
+pub record HasUnknownTarget (shown : Shown) (rule : Rule) (a : Asked) : Type 0 where
   pub before : SinkState
   pub after : SinkState
   pub fault : PlanFault
   pub reads : ℕ
   pub failed : ℕ
   pub number : fault.number ≡ 132
-  pub stopped : Stops any_contents (IsMissing any_contents any_path reads failed) rule a before after fault
+  pub stopped : Stops any_contents (IsMissing any_contents any_path reads failed) shown rule a before after fault
 
 -- A build ended with status 0, by its own exit status.
-pub record EndedWell (rule : Rule) (a : Asked) : Type 0 where
+pub record EndedWell (shown : Shown) (rule : Rule) (a : Asked) : Type 0 where
   pub done : Done
-  pub ended : Ended rule a done
+  pub ended : Ended shown rule a done
   pub well : exit_status done ≡ 0
 
--- What a status of 0 says of a command line without `-n`: its build succeeded. Or one of its targets is unknown to the
--- manifest, and the words name other paths.
-abbrev pub SaysBuilt : Rule → List Argument → (default : ℕ) → (status : ℕ) → Type 0
-SaysBuilt rule line default status =
-    status ≡ 0 → is_dry_run line ≡ false → EndedWell rule (asked_by line default) ⊎ HasUnknownTarget rule (asked_by line default)
+-- What a status of 0 says of a command line without `-n`: its build succeeded, and its runs were shown in this way. Or
+-- one of its targets is unknown to the manifest, and the words name other paths.
+abbrev pub SaysBuilt : Shown → Rule → List Argument → (default : ℕ) → (status : ℕ) → Type 0
+SaysBuilt shown rule line default status =
+    status ≡ 0 → is_dry_run line ≡ false → EndedWell shown rule (asked_by line default) ⊎ HasUnknownTarget shown rule (asked_by line default)

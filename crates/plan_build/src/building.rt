@@ -5,53 +5,100 @@ ghost use Rattle.plan_options.specs.Saying.{is_dry_run};
 ghost use Rattle.plan_commands.specs.Building.{asked, exit_status};
 ghost use Rattle.plan_commands.specs.declared.building.Done.{Done};
 ghost use Rattle.plan_build.specs.Statuses as statuses;
-ghost use Rattle.plan_build.specs.Statuses.{Ended, HasUnknownTarget, SaysBuilt};
+ghost use Rattle.plan_build.specs.Statuses.{Ended, HasUnknownTarget, SaysBuilt, as_build, display_in};
 
 use crate::ending::{end_build, no_work};
 use crate::refusal::{UNKNOWN_TARGET, refuse};
 use crate::tool::{Named, named_in, refuse_tool};
-use crate::words::manifest_in;
+use crate::words::{manifest_in, style_in};
 use plan_commands::{
-    Done, FileSource, MANIFEST_BYTES, Order, PlanFault, Screen, do_build, do_dry_build, no_memory,
+    Done, FileSource, MANIFEST_BYTES, Order, PlanFault, Printer, Screen, do_build, do_dry_build,
+    no_memory,
 };
 use plan_lanes::World;
 use plan_machine::Options;
 use plan_options::CommandLine;
+use plan_progress::{BuildLines, Display, Outputs};
 use std::rt::Files;
 use std::sync::{Mutex, Wait};
 use std::thread::{Parker, Threads};
 
+/// What shows the runs of a build.
+type BuildPrinter<'a, R, H> = Printer<BuildLines<'a, H>, Screen<'a, R>>;
+
 /// The environment of a build.
 #[derive(Drop)]
-pub struct Builder<'a, R, E, W> {
+pub struct Builder<'a, R, E, W, H> {
     /// The runtime.
     pub rt: &'a R,
     /// Standard error.
     pub errors: &'a E,
     /// The world that replies to the build's questions.
     pub world: &'a W,
+    /// What commands printed and what isn't shown yet.
+    pub outputs: &'a H,
+    /// Whether standard output is a terminal on which lines are written over.
+    pub on_terminal: bool,
     /// The lock of standard output.
     pub screen: &'a Mutex<()>,
     /// Unparked before a command starts, so that the lines so far are printed first.
     pub parker: &'a Parker,
 }
 
+impl<'a, R, E, W, H> Builder<'a, R, E, W, H> {
+    /// Creates the environment of a build.
+    pub fn new(
+        rt: &'a R,
+        errors: &'a E,
+        world: &'a W,
+        outputs: &'a H,
+        on_terminal: bool,
+        screen: &'a Mutex<()>,
+        parker: &'a Parker,
+    ) -> Builder<'a, R, E, W, H> {
+        Builder {
+            rt,
+            errors,
+            world,
+            outputs,
+            on_terminal,
+            screen,
+            parker,
+        }
+    }
+}
+
 impl<
     R: Threads + Wait + Sync + Files + Print + Eprint + AllocGlobal,
     E: Print,
     W: World + Send + Sync,
-> Builder<'_, R, E, W> {
-    /// Builds targets, or with `-n` prints the commands that would run.
-    fn build(
+    H: Outputs + Sync,
+> Builder<'_, R, E, W, H> {
+    /// Returns what shows the runs of a build.
+    fn printer(&self, line: &CommandLine) -> BuildPrinter<'_, R, H>
+        ensures { result.format.display ≡ display_in line.now self.now.on_terminal }
+    {
+        let display = Display {
+            style: style_in(line),
+            on_terminal: self.on_terminal,
+        };
+        Printer {
+            format: BuildLines::new(self.outputs, display),
+            out: Screen::new(self.rt, self.screen),
+        }
+    }
+
+    /// Builds targets. Returns how many edges failed, too.
+    fn run(
         &self,
         line: &CommandLine,
         options: Options,
         targets: &[&[u8]],
-    ) -> Result<Done, PlanFault>
+    ) -> (Result<Done, PlanFault>, u64)
         ensures done { let a = asked (statuses.manifest_in line.now) options (map (λ n. n.now) targets.now) in
-            is_dry_run line.now ≡ false → IfOk result (λ done. Ended W.allows a done) }
+            IfOk result.0 (λ done. Ended (as_build H H.taken (display_in line.now self.now.on_terminal)) W.allows a done) }
         ensures unknown { let a = asked (statuses.manifest_in line.now) options (map (λ n. n.now) targets.now) in
-            is_dry_run line.now ≡ false → IfErr result (λ fault. fault.number ≡ 132 → HasUnknownTarget W.allows a) }
+            IfErr result.0 (λ fault. fault.number ≡ 132 → HasUnknownTarget (as_build H H.taken (display_in line.now self.now.on_terminal)) W.allows a) }
     {
         let (rt, alloc) = (self.rt, self.rt.alloc());
         let order = Order {
@@ -60,38 +107,75 @@ impl<
             targets,
         };
         let mut manifests = FileSource::new(rt, MANIFEST_BYTES);
-        let out = Screen::new(rt, self.screen);
-        let (done, _out) = if line.is_dry_run() {
-            do_dry_build(
-                rt,
-                alloc,
-                &mut manifests,
-                &order,
-                self.world,
-                self.parker,
-                out,
-            )
-        } else {
-            do_build(
-                rt,
-                alloc,
-                &mut manifests,
-                &order,
-                self.world,
-                self.parker,
-                out,
-            )
-        };
-        done
+        let printer = self.printer(line);
+        let (done, printer) = do_build(
+            rt,
+            alloc,
+            &mut manifests,
+            &order,
+            self.world,
+            self.parker,
+            printer,
+        );
+        (done, printer.format.counts().failed)
     }
 
-    /// Prints how a build ended, and returns the exit status.
-    fn end(&self, line: &CommandLine, done: Result<Done, PlanFault>) -> u8
+    /// Prints the commands that a build would run. Returns how many edges would fail, too.
+    fn preview(
+        &self,
+        line: &CommandLine,
+        options: Options,
+        targets: &[&[u8]],
+    ) -> (Result<Done, PlanFault>, u64) {
+        let (rt, alloc) = (self.rt, self.rt.alloc());
+        let order = Order {
+            manifest: manifest_in(line),
+            options,
+            targets,
+        };
+        let mut manifests = FileSource::new(rt, MANIFEST_BYTES);
+        let printer = self.printer(line);
+        let (done, printer) = do_dry_build(
+            rt,
+            alloc,
+            &mut manifests,
+            &order,
+            self.world,
+            self.parker,
+            printer,
+        );
+        (done, printer.format.counts().failed)
+    }
+
+    /// Builds targets, or with `-n` prints the commands that would run. Returns how many edges failed, too.
+    fn build(
+        &self,
+        line: &CommandLine,
+        options: Options,
+        targets: &[&[u8]],
+    ) -> (Result<Done, PlanFault>, u64)
+        ensures done { let a = asked (statuses.manifest_in line.now) options (map (λ n. n.now) targets.now) in
+            is_dry_run line.now ≡ false → IfOk result.0 (λ done. Ended (as_build H H.taken (display_in line.now self.now.on_terminal)) W.allows a done) }
+        ensures unknown { let a = asked (statuses.manifest_in line.now) options (map (λ n. n.now) targets.now) in
+            is_dry_run line.now ≡ false → IfErr result.0 (λ fault. fault.number ≡ 132 → HasUnknownTarget (as_build H H.taken (display_in line.now self.now.on_terminal)) W.allows a) }
+    {
+        if line.is_dry_run() {
+            self.preview(line, options, targets)
+        } else {
+            self.run(line, options, targets)
+        }
+    }
+
+    /// Prints how a build ended in which so many edges failed, and returns the exit status.
+    fn end(&self, line: &CommandLine, done: Result<Done, PlanFault>, failed: u64) -> u8
         ensures { result ≡ 0 → (d : Done) × (done ≡ Ok d) × (exit_status d ≡ 0) }
     {
         let manifest = manifest_in(line);
         match done {
-            Ok(done) => end_build(self.rt, self.errors, manifest, line.failures(), done),
+            Ok(done) => {
+                let allowed = line.failures();
+                end_build(self.rt, self.errors, manifest, allowed, failed, done)
+            }
             Err(fault) => refuse(self.rt, self.errors, manifest, &fault),
         }
     }
@@ -102,8 +186,11 @@ impl<
         match named_in(self.rt, manifest_in(line), words) {
             Ok(Named::Sources) => no_work(self.rt, self.errors),
             Ok(Named::Targets(paths)) => match paths.slices(self.rt.alloc()) {
-                Ok(targets) => self.end(line, self.build(line, options, &targets)),
-                Err(_) => self.end(line, Err(no_memory(self.rt.alloc()))),
+                Ok(targets) => {
+                    let (done, failed) = self.build(line, options, &targets);
+                    self.end(line, done, failed)
+                }
+                Err(_) => self.end(line, Err(no_memory(self.rt.alloc())), 0),
             },
             Err(fault) => refuse_tool(self.rt, self.errors, manifest_in(line), &fault),
         }
@@ -112,20 +199,21 @@ impl<
     /// Builds the targets of a command line. At most `jobs` commands run at once if `-j` isn't given. Returns the exit
     /// status.
     pub fn build_line(&self, line: &CommandLine, jobs: u8) -> u8
-        ensures { SaysBuilt W.allows line.now jobs result }
+        ensures { SaysBuilt (as_build H H.taken (display_in line.now self.now.on_terminal)) W.allows line.now jobs result }
     {
         let alloc = self.rt.alloc();
         let (Some(options), Ok(targets)) = (
             Options::new(line.jobs().unwrap_or(jobs), line.failures()),
             line.targets(alloc),
         ) else {
-            return self.end(line, Err(no_memory(alloc)));
+            return self.end(line, Err(no_memory(alloc)), 0);
         };
-        match self.build(line, options, &targets) {
+        let (done, failed) = self.build(line, options, &targets);
+        match done {
             Err(fault) if fault.number == UNKNOWN_TARGET => {
                 self.build_named(line, options, &targets)
             }
-            done => self.end(line, done),
+            done => self.end(line, done, failed),
         }
     }
 }

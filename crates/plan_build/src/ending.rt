@@ -10,10 +10,13 @@ use std::alloc::Global;
 /// ninja's words for a manifest that is still dirty after 100 tries.
 const TRIES: &[u8] = b"100 tries, perhaps system time is not set";
 
-/// Returns ninja's reason for a failed build. `failures` is the value of `-k`: 0 allows any number of failures.
-fn failure_text(failures: u32) -> &'static [u8] {
-    match failures {
-        0 => b"cannot make progress due to previous errors",
+/// Returns ninja's reason for a build in which `failed` edges failed. `allowed` is the value of `-k`: as many failures
+/// stop the build, and 0 allows any number.
+fn failure_text(allowed: u32, failed: u64) -> &'static [u8] {
+    if allowed == 0 || failed < u64::from(allowed) {
+        return b"cannot make progress due to previous errors";
+    }
+    match allowed {
         1 => b"subcommand failed",
         _ => b"subcommands failed",
     }
@@ -25,7 +28,7 @@ fn refuse_manifest<E: Print>(
     alloc: Global,
     errors: &E,
     manifest: &[u8],
-    failures: u32,
+    reason: &'static [u8],
     never_settles: bool,
 ) {
     if never_settles {
@@ -39,7 +42,6 @@ fn refuse_manifest<E: Print>(
             TRIES,
         );
     } else {
-        let reason = failure_text(failures);
         complain_of(
             alloc,
             errors,
@@ -56,19 +58,21 @@ pub fn no_work<R: Print + AllocGlobal, E: Print>(rt: &R, errors: &E) -> u8 {
     status_after(say(rt, errors, &[b"ninja: no work to do.\n"]), 0)
 }
 
-/// Prints how the build of a manifest ended, in ninja's words. Returns the exit status of the build, or 1 if
-/// `no work to do` can't be written. That failure is reported on standard error.
+/// Prints how the build of a manifest ended, in ninja's words. `allowed` is the value of `-k`, and `failed` the number of
+/// edges that failed. Returns the exit status of the build, or 1 if `no work to do` can't be written. That failure is
+/// reported on standard error.
 pub fn end_build<R: Print + AllocGlobal, E: Print>(
     rt: &R,
     errors: &E,
     manifest: &[u8],
-    failures: u32,
+    allowed: u32,
+    failed: u64,
     done: Done,
 ) -> u8
     ensures { result ≡ 0 → exit_status done ≡ 0 }
 {
     let status = done.status();
-    let reason = failure_text(failures);
+    let reason = failure_text(allowed, failed);
     match done {
         Done::Built => status,
         Done::UpToDate => status_after(say(rt, errors, &[b"ninja: no work to do.\n"]), status),
@@ -77,11 +81,11 @@ pub fn end_build<R: Print + AllocGlobal, E: Print>(
             status
         }
         Done::ManifestFails => {
-            refuse_manifest(rt.alloc(), errors, manifest, failures, false);
+            refuse_manifest(rt.alloc(), errors, manifest, reason, false);
             status
         }
         Done::NeverSettles => {
-            refuse_manifest(rt.alloc(), errors, manifest, failures, true);
+            refuse_manifest(rt.alloc(), errors, manifest, reason, true);
             status
         }
     }

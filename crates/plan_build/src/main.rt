@@ -5,6 +5,7 @@
 mod ahead;
 mod building;
 mod ending;
+mod held_outputs;
 mod pointing;
 mod refusal;
 mod said;
@@ -15,9 +16,10 @@ mod tool;
 mod words;
 
 use crate::building::Builder;
+use crate::held_outputs::HeldOutputs;
 use crate::refusal::{refuse, refuse_loading, refuse_record};
 use crate::said::{REFUSED, complain, complain_of, say};
-use crate::shells::{BuildShells, wants_escapes};
+use crate::shells::{BuildShells, is_smart_terminal, wants_escapes};
 use crate::stopping::{stop_at, warn};
 use crate::tool::{request_in, run_tool, tool_named, unknown_tool};
 use crate::words::{MANIFEST, RECORD, after_name, manifest_in, name_in, words_in};
@@ -112,18 +114,19 @@ fn missing<R: Files>(rt: &R, manifest: &[u8]) -> Option<ErrorKind> {
 }
 
 /// The world of real files and commands.
-type SystemWorld = RealWorld<HostRuntime, BuildShells<HostRuntime>>;
+type SystemWorld<'a> = RealWorld<HostRuntime, BuildShells<'a, HostRuntime>>;
 
 /// Opens the world of real files and commands, with the record in the folder of the build. If the manifest is missing,
-/// no record is created.
+/// no record is created. What commands print is held in `outputs`.
 ///
 /// # Errors
 /// The exit status if the world can't be opened. The reason is reported on standard error.
-fn open_world<E: Print>(
+fn open_world<'a, E: Print>(
     rt: &HostRuntime,
     errors: &E,
     line: &CommandLine,
-) -> Result<SystemWorld, u8> {
+    outputs: &'a HeldOutputs<'a, HostRuntime>,
+) -> Result<SystemWorld<'a>, u8> {
     let alloc = rt.alloc();
     let manifest = manifest_in(line);
     if let Some(kind) = missing(rt, manifest) {
@@ -134,7 +137,7 @@ fn open_world<E: Print>(
     let (Ok(own), Ok(other)) = (own, other) else {
         return Err(refuse(rt, errors, manifest, &no_memory(alloc)));
     };
-    let shells = BuildShells::new(alloc, other, wants_escapes(rt));
+    let shells = BuildShells::new(alloc, other, outputs, wants_escapes(rt));
     match RealWorld::open(own, shells, RECORD) {
         Ok(world) => Ok(world),
         Err(fault) => Err(refuse_record(rt, errors, manifest, fault)),
@@ -280,7 +283,8 @@ fn main(rt: HostRuntime) -> ExitCode {
         Ok(line) => line,
         Err(status) => return ExitCode::from(status),
     };
-    let world = match open_world(&rt, &errors, &line) {
+    let outputs = HeldOutputs::new(rt.alloc(), &rt);
+    let world = match open_world(&rt, &errors, &line, &outputs) {
         Ok(world) => world,
         Err(status) => return ExitCode::from(status),
     };
@@ -289,13 +293,15 @@ fn main(rt: HostRuntime) -> ExitCode {
         Ok(world) => world,
         Err(status) => return ExitCode::from(status),
     };
-    let builder = Builder {
-        rt: &rt,
-        errors: &errors,
-        world: &world,
-        screen: world.inner().screen(),
-        parker: world.inner().parker(),
-    };
+    let builder = Builder::new(
+        &rt,
+        &errors,
+        &world,
+        &outputs,
+        is_smart_terminal(&rt),
+        world.inner().screen(),
+        world.inner().parker(),
+    );
     let status = if is_long {
         let threads = threads_ahead(&rt, &line, line.jobs().unwrap_or(jobs));
         builder.build_looking_ahead(&line, jobs, threads)

@@ -1,5 +1,6 @@
 //! The shells of a build, and what is shown of what their commands print.
 
+use crate::held_outputs::HeldOutputs;
 use plan_output::shown_output;
 use plan_world::{Printed, Shells, SystemShells};
 use std::alloc::Global;
@@ -7,32 +8,47 @@ use std::env;
 use std::io::{self, IsTerminal};
 use std::process::{Command, ExitStatus, Processes};
 use std::rt::{Env, Files};
+use std::sync::Wait;
 
-/// The system's shells. If escape sequences aren't wanted, they are removed from what commands print.
+/// The system's shells. What commands print is held until their marks are shown. If escape sequences aren't wanted, they
+/// are removed from it.
 #[derive(Drop)]
-pub struct BuildShells<R> {
+pub struct BuildShells<'a, R> {
     alloc: Global,
     shells: SystemShells<R>,
+    outputs: &'a HeldOutputs<'a, R>,
     escapes: bool,
 }
 
-impl<R> BuildShells<R> {
-    /// Creates the shells of a runtime. If `escapes` is false, escape sequences are removed.
-    pub fn new(alloc: Global, rt: R, escapes: bool) -> BuildShells<R> {
+impl<'a, R> BuildShells<'a, R> {
+    /// Creates the shells of a runtime. What commands print goes into `outputs`. If `escapes` is false, escape sequences
+    /// are removed.
+    pub fn new(
+        alloc: Global,
+        rt: R,
+        outputs: &'a HeldOutputs<'a, R>,
+        escapes: bool,
+    ) -> BuildShells<'a, R> {
         BuildShells {
             alloc,
             shells: SystemShells::new(rt),
+            outputs,
             escapes,
         }
     }
 }
 
-impl<R: Processes + Files> Shells for BuildShells<R> {
+impl<R: Processes + Files + Wait> Shells for BuildShells<'_, R> {
     ghost ended = { λ _ _. Unit {0} };
 
     fn output(&self, shell: Command, edge: &[u8]) -> io::Result<Printed> {
         let Printed { status, text } = self.shells.output(shell, edge)?;
         let text = shown_output(self.alloc, text, self.escapes)?;
+        let text = match self.outputs.hold(self.alloc, edge, text) {
+            None => Vec::new(self.alloc),
+            // Without memory it is shown now, before its label.
+            Some(text) => text,
+        };
         Ok(Printed { status, text })
     }
 
@@ -49,9 +65,14 @@ fn is_set_otherwise<R: Env + AllocGlobal>(rt: &R, name: &str, value: &str) -> bo
     }
 }
 
-/// Checks whether escape sequences are wanted, as ninja does: if standard output is a terminal and `TERM` names another
-/// one than `dumb`, or if `CLICOLOR_FORCE` is set and isn't `0`.
+/// Checks whether standard output is a terminal that understands escape sequences: `TERM` names another one than
+/// `dumb`.
+pub fn is_smart_terminal(rt: &HostRuntime) -> bool {
+    rt.stdout().is_terminal() && is_set_otherwise(rt, "TERM", "dumb")
+}
+
+/// Checks whether escape sequences are wanted, as ninja does: on a terminal that understands them, or if
+/// `CLICOLOR_FORCE` is set and isn't `0`.
 pub fn wants_escapes(rt: &HostRuntime) -> bool {
-    let is_terminal = rt.stdout().is_terminal() && is_set_otherwise(rt, "TERM", "dumb");
-    is_terminal || is_set_otherwise(rt, "CLICOLOR_FORCE", "0")
+    is_smart_terminal(rt) || is_set_otherwise(rt, "CLICOLOR_FORCE", "0")
 }

@@ -23,7 +23,7 @@ options:
   --version      print the ninja version whose features are supported (\"1.9.0\")
   --about        print what this program is: plan_build of plan_ninja
   -v, --verbose  show all command lines while building
-  --quiet        don't show progress status, just command output
+  --quiet        show only commands that fail, with their output
 
   -C DIR   change to DIR before doing anything else
   -f FILE  specify input build file [default=build.ninja]

@@ -1,9 +1,11 @@
 //! The words of the command line.
 
 ghost use Rattle.std.specs.Prelude.{◌≡◌};
+ghost use Rattle.plan_build.specs.Statuses as statuses;
 ghost use Rattle.plan_build.specs.Statuses.{manifest_in};
 
 use plan_options::{CommandLine, Flag, Setting};
+use plan_progress::Style;
 use plan_text::Memory;
 use std::alloc::Global;
 use std::rt::Env;
@@ -25,6 +27,17 @@ pub fn manifest_in(line: &CommandLine) -> &[u8]
 /// Checks whether the last option for verbosity is `-v`.
 pub fn is_verbose(line: &CommandLine) -> bool {
     line.verbosity() == Some(Flag::Verbose)
+}
+
+/// Returns how commands are shown: by their labels, or as the last option for verbosity says.
+pub fn style_in(line: &CommandLine) -> Style
+    ensures { result ≡ statuses.style_in line.now }
+{
+    match line.verbosity() {
+        Some(Flag::Verbose) => Style::Commands,
+        Some(Flag::Quiet) => Style::Failures,
+        _ => Style::Labels,
+    }
 }
 
 /// Returns the words of the command line, the program's own name first.

@@ -23,6 +23,7 @@ use Rattle.plan_laws.specs.Ends.{CommandsRunOnce, Exchange, Succeeds, commands_i
 use Rattle.plan_laws.specs.Right.{AllIsBuilt, FinishedRunsAreRight}
 use Rattle.plan_commands.specs.declared.building.Done.{Done}
 use Rattle.plan_commands.specs.declared.building.Done.TheVariants as done
+use Rattle.plan_commands.specs.Showing.{Shown}
 use Rattle.plan_commands.specs.Building.{EndsAs, HasRunNothing, exit_status, opened, outcome_in}
 use Rattle.plan_commands.specs.BuildIsRight.{BuildIsRight, IdleBuildsRunNothing}
 
@@ -40,8 +41,8 @@ run_is_right : (rule : Rule) → FinishedRunsAreRight rule → (m : Manifest) (g
 run_is_right rule right m g sound graph limits edges r p same =
     subst (λ (q : Parts). (run : IsRunOf rule (opened q limits edges) r) → all_done q r.state.run_state.now ≡ true → AllIsBuilt rule Stricter m g edges r run.left) (sym same) (right Stricter m g sound graph limits edges r)
 
-pub build_is_right : (gives : FileContents) (rule : Rule) → FinishedRunsAreRight rule → BuildIsRight gives rule
-build_is_right gives rule right a old new d zero b =
+pub build_is_right : (gives : FileContents) (shown : Shown) (rule : Rule) → FinishedRunsAreRight rule → BuildIsRight gives shown rule
+build_is_right gives shown rule right a old new d zero b =
     run_is_right rule right b.read.manifest b.read.image.graph b.read.image.sound b.read.image.is_graph a.limits b.edges b.report b.parts b.read.image.same b.run.run
     (all_succeeded b.parts b.report d zero b.ends)
 
@@ -51,6 +52,6 @@ asked_for_none : (r : Report) (e : ℕ) → HasRunNothing r → CommandsRunOnce 
 asked_for_none r e nothing once phony meaning c conversation true left is succeeds = absurd (nothing e (ap outcome_at is))
 asked_for_none r e nothing once phony meaning c conversation false left is succeeds = once phony meaning c conversation false left succeeds
 
-pub idle_builds_run_nothing : (gives : FileContents) (rule : Rule) → CommandsRunOnce → IdleBuildsRunNothing gives rule
-idle_builds_run_nothing gives rule once a old new b e x =
+pub idle_builds_run_nothing : (gives : FileContents) (shown : Shown) (rule : Rule) → CommandsRunOnce → IdleBuildsRunNothing gives shown rule
+idle_builds_run_nothing gives shown rule once a old new b e x =
     asked_for_none b.report e b.ends.1 once _ _ _ x.right.conversation x.ran x.right.left x.succeeded x.right.succeeds

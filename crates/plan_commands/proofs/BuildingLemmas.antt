@@ -31,6 +31,7 @@ use Rattle.plan_commands.specs.declared.building.Done.TheVariants as done
 use Rattle.plan_commands.specs.Commands.{IsMeant, IsRefused, loading_by}
 use Rattle.plan_commands.specs.Compiling.{IsImageOf, IsNotCompiled, LacksImageOf}
 use Rattle.plan_commands.specs.Images.{SinkState}
+use Rattle.plan_commands.specs.Showing.{IsShown, Shown}
 use Rattle.plan_commands.specs.Running.{EndsPrinted, LanesStop, lines_in, report_in}
 use Rattle.plan_commands.specs.Targets.{target, targets}
 use Rattle.plan_commands.specs.Building.{Asked, IsRead, Nowhere, opened, maker_of, ok_of, outcome_in, Remakes, Rounds, no_round, one_more, IsUpToDate, MakerFails, FailsToRemake, BuildsTargets, Builds, EndsAs, most_rounds, IsNotRead, LacksMemory, RunStops, IsNotRun, RoundStops, TargetsStop, Stops, IsLost, IsRoundOf, EndsRound, HasRunNothing, RunsTargets}
@@ -90,32 +91,32 @@ read_of g f b c path manifest (Err fault) m image = tt
 
 -- ---- a run
 
-stopped_run : (rule : Rule) (o : Opened) (ran : Result Report LaneFault) (stop : Option PrintFault) (old new : SinkState) (fault : PlanFault) → any_outside o.parts o.targets ≡ false
+stopped_run : (shown : Shown) (rule : Rule) (o : Opened) (ran : Result Report LaneFault) (stop : Option PrintFault) (old new : SinkState) (fault : PlanFault) → any_outside o.parts o.targets ≡ false
     → IfOk ran (λ r. IsRunOf rule o r) → IfOk ran (λ r. has_ended r.state.run_state.now ≡ true) → IfErr ran (λ f. FaultReports rule o f)
-    → IfSome (report_in ran) (λ r. Prints (lines_in o.parts r) stop old new) → IfNone (report_in ran) (new ≡ old)
-    → IsLost ran stop fault → IsNotRun rule o old new fault
-stopped_run rule o (Ok r) (Some stop) old new fault inside run ended reports printed none lost =
+    → IfSome (report_in ran) (λ r. IsShown shown o.parts r stop old new) → IfNone (report_in ran) (new ≡ old)
+    → IsLost ran stop fault → IsNotRun shown rule o old new fault
+stopped_run shown rule o (Ok r) (Some stop) old new fault inside run ended reports printed none lost =
     inr (r, inr (record { run = run; ended = ended; stop = stop; printed = printed; says = lost }))
-stopped_run rule o (Ok r) None old new fault inside run ended reports printed none lost = absurd lost
-stopped_run rule o (Err (lanes.Opening refused.Memory)) stop old new fault inside run ended reports printed none lost = inl (none, lost)
-stopped_run rule o (Err (lanes.Opening refused.BadTarget)) stop old new fault inside run ended reports printed none lost = absurd (let clash : false ≡ true = sym inside ∙ reports in cc)
-stopped_run rule o (Err (lanes.Opening refused.NotEnabled)) stop old new fault inside run ended reports printed none lost = absurd reports
-stopped_run rule o (Err (lanes.NotEnabled r)) stop old new fault inside run ended reports printed none lost =
+stopped_run shown rule o (Ok r) None old new fault inside run ended reports printed none lost = absurd lost
+stopped_run shown rule o (Err (lanes.Opening refused.Memory)) stop old new fault inside run ended reports printed none lost = inl (none, lost)
+stopped_run shown rule o (Err (lanes.Opening refused.BadTarget)) stop old new fault inside run ended reports printed none lost = absurd (let clash : false ≡ true = sym inside ∙ reports in cc)
+stopped_run shown rule o (Err (lanes.Opening refused.NotEnabled)) stop old new fault inside run ended reports printed none lost = absurd reports
+stopped_run shown rule o (Err (lanes.NotEnabled r)) stop old new fault inside run ended reports printed none lost =
     inr (r, inl (record { run = reports; stop = stop; printed = printed; stopped = lanes.NotEnabled r; reports = refl; says = lost }))
-stopped_run rule o (Err (lanes.NoMemory r)) stop old new fault inside run ended reports printed none lost =
+stopped_run shown rule o (Err (lanes.NoMemory r)) stop old new fault inside run ended reports printed none lost =
     inr (r, inl (record { run = reports; stop = stop; printed = printed; stopped = lanes.NoMemory r; reports = refl; says = lost }))
-stopped_run rule o (Err (lanes.NoLane r)) stop old new fault inside run ended reports printed none lost =
+stopped_run shown rule o (Err (lanes.NoLane r)) stop old new fault inside run ended reports printed none lost =
     inr (r, inl (record { run = reports; stop = stop; printed = printed; stopped = lanes.NoLane r; reports = refl; says = lost }))
-stopped_run rule o (Err (lanes.OtherBoard r)) stop old new fault inside run ended reports printed none lost =
+stopped_run shown rule o (Err (lanes.OtherBoard r)) stop old new fault inside run ended reports printed none lost =
     inr (r, inl (record { run = reports; stop = stop; printed = printed; stopped = lanes.OtherBoard r; reports = refl; says = lost }))
 
 -- The reason why a run has no report, from its clauses.
-pub not_run : (rule : Rule) (o : Opened) (ran : Result Report LaneFault) (stop : Option PrintFault) (old new : SinkState) (result : Result Report PlanFault) → any_outside o.parts o.targets ≡ false
+pub not_run : (shown : Shown) (rule : Rule) (o : Opened) (ran : Result Report LaneFault) (stop : Option PrintFault) (old new : SinkState) (result : Result Report PlanFault) → any_outside o.parts o.targets ≡ false
     → IfOk ran (λ r. IsRunOf rule o r) → IfOk ran (λ r. has_ended r.state.run_state.now ≡ true) → IfErr ran (λ f. FaultReports rule o f)
-    → IfSome (report_in ran) (λ r. Prints (lines_in o.parts r) stop old new) → IfNone (report_in ran) (new ≡ old)
-    → IfErr result (λ fault. IsLost ran stop fault) → IfErr result (λ fault. IsNotRun rule o old new fault)
-not_run rule o ran stop old new (Ok r) inside run ended reports printed none lost = tt
-not_run rule o ran stop old new (Err fault) inside run ended reports printed none lost = stopped_run rule o ran stop old new fault inside run ended reports printed none lost
+    → IfSome (report_in ran) (λ r. IsShown shown o.parts r stop old new) → IfNone (report_in ran) (new ≡ old)
+    → IfErr result (λ fault. IsLost ran stop fault) → IfErr result (λ fault. IsNotRun shown rule o old new fault)
+not_run shown rule o ran stop old new (Ok r) inside run ended reports printed none lost = tt
+not_run shown rule o ran stop old new (Err fault) inside run ended reports printed none lost = stopped_run shown rule o ran stop old new fault inside run ended reports printed none lost
 
 -- ---- the edge that makes the manifest
 
@@ -130,19 +131,19 @@ pub maker_is : (p q : Parts) (path : Text) (m : ℕ) (o : Option ℕ) → q ≡ 
 maker_is p q path m o same is by = sym is ∙ by ∙ ap (λ (x : Parts). maker_of x path) same
 
 -- How a round goes, from the run of the maker.
-pub round_by : (gives : FileContents) (rule : Rule) (a : Asked) (p : Parts) (maker : ℕ) (r : Report) (old new : SinkState) (x : Round) → IsRead gives a.path p → Some maker ≡ maker_of p a.path
-    → EndsPrinted rule (opened p a.limits (maker ∷ [])) r old new → IsRoundOf p maker r x → EndsRound gives rule a old new x
-round_by gives rule a p maker r old new (round.UpToDate q) read makes run is =
-    subst (λ (x : Parts). IsRead gives a.path x × IsUpToDate rule a x old new) (sym is.0)
+pub round_by : (gives : FileContents) (shown : Shown) (rule : Rule) (a : Asked) (p : Parts) (maker : ℕ) (r : Report) (old new : SinkState) (x : Round) → IsRead gives a.path p → Some maker ≡ maker_of p a.path
+    → EndsPrinted shown rule (opened p a.limits (maker ∷ [])) r old new → IsRoundOf p maker r x → EndsRound gives shown rule a old new x
+round_by gives shown rule a p maker r old new (round.UpToDate q) read makes run is =
+    subst (λ (x : Parts). IsRead gives a.path x × IsUpToDate shown rule a x old new) (sym is.0)
     (read, inr (record { maker = maker; makes = sym makes; report = r; run = run; well = is.1; clean = is.2 }))
-round_by gives rule a p maker r old new round.Remade read makes run is = record { parts = p; read = read; maker = maker; makes = sym makes; report = r; run = run; well = is.0; ran = is.1 }
-round_by gives rule a p maker r old new round.Failed read makes run is = record { parts = p; read = read; maker = maker; makes = sym makes; report = r; run = run; ill = is }
+round_by gives shown rule a p maker r old new round.Remade read makes run is = record { parts = p; read = read; maker = maker; makes = sym makes; report = r; run = run; well = is.0; ran = is.1 }
+round_by gives shown rule a p maker r old new round.Failed read makes run is = record { parts = p; read = read; maker = maker; makes = sym makes; report = r; run = run; ill = is }
 
 -- The reason why a round stops, from the run of the maker.
-pub maker_stops : (gives : FileContents) (missing : PathSet) (rule : Rule) (a : Asked) (p : Parts) (maker : ℕ) (old new : SinkState) (fault : PlanFault) → IsRead gives a.path p → Some maker ≡ maker_of p a.path
-    → IsNotRun rule (opened p a.limits (maker ∷ [])) old new fault → RoundStops gives missing rule a old new fault
-maker_stops gives missing rule a p maker old new fault read makes (inl x) = inl (x.0, inr (inr x.1))
-maker_stops gives missing rule a p maker old new fault read makes (inr x) = inr (record { parts = p; read = read; maker = maker; makes = sym makes; stops = x })
+pub maker_stops : (gives : FileContents) (missing : PathSet) (shown : Shown) (rule : Rule) (a : Asked) (p : Parts) (maker : ℕ) (old new : SinkState) (fault : PlanFault) → IsRead gives a.path p → Some maker ≡ maker_of p a.path
+    → IsNotRun shown rule (opened p a.limits (maker ∷ [])) old new fault → RoundStops gives missing shown rule a old new fault
+maker_stops gives missing shown rule a p maker old new fault read makes (inl x) = inl (x.0, inr (inr x.1))
+maker_stops gives missing shown rule a p maker old new fault read makes (inr x) = inr (record { parts = p; read = read; maker = maker; makes = sym makes; stops = x })
 
 -- ---- if files may hold the same
 
@@ -150,15 +151,15 @@ module _ (g h : FileContents) (gh : (p : Text) (bytes : Option (List ℕ)) → g
   read_wider : (path : Text) (p : Parts) → IsRead g path p → IsRead h path p
   read_wider path p r = record { lines = r.lines; manifest = r.manifest; loaded = loads_wider g h Nowhere Nowhere gh (λ q x. x) more_files _ [] _ r.loaded; means = r.means; image = r.image }
 
-  pub round_wider : (rule : Rule) (a : Asked) (old new : SinkState) (x : Round) → EndsRound g rule a old new x → EndsRound h rule a old new x
-  round_wider rule a old new (round.UpToDate p) x = (read_wider a.path p x.0, x.1)
-  round_wider rule a old new round.Remade x = record { parts = x.parts; read = read_wider a.path x.parts x.read; maker = x.maker; makes = x.makes; report = x.report; run = x.run; well = x.well; ran = x.ran }
-  round_wider rule a old new round.Failed x = record { parts = x.parts; read = read_wider a.path x.parts x.read; maker = x.maker; makes = x.makes; report = x.report; run = x.run; ill = x.ill }
+  pub round_wider : (shown : Shown) (rule : Rule) (a : Asked) (old new : SinkState) (x : Round) → EndsRound g shown rule a old new x → EndsRound h shown rule a old new x
+  round_wider shown rule a old new (round.UpToDate p) x = (read_wider a.path p x.0, x.1)
+  round_wider shown rule a old new round.Remade x = record { parts = x.parts; read = read_wider a.path x.parts x.read; maker = x.maker; makes = x.makes; report = x.report; run = x.run; well = x.well; ran = x.ran }
+  round_wider shown rule a old new round.Failed x = record { parts = x.parts; read = read_wider a.path x.parts x.read; maker = x.maker; makes = x.makes; report = x.report; run = x.run; ill = x.ill }
 
-  pub stops_wider : (m n : PathSet) → ((p : Text) → m p → n p) → (rule : Rule) (a : Asked) (old new : SinkState) (fault : PlanFault) → RoundStops g m rule a old new fault → RoundStops h n rule a old new fault
-  stops_wider m n mn rule a old new fault (inl (same, inl x)) = inl (same, inl (not_read_wider g h m n gh mn a.path fault x))
-  stops_wider m n mn rule a old new fault (inl (same, inr x)) = inl (same, inr x)
-  stops_wider m n mn rule a old new fault (inr x) = inr (record { parts = x.parts; read = read_wider a.path x.parts x.read; maker = x.maker; makes = x.makes; stops = x.stops })
+  pub stops_wider : (m n : PathSet) → ((p : Text) → m p → n p) → (shown : Shown) (rule : Rule) (a : Asked) (old new : SinkState) (fault : PlanFault) → RoundStops g m shown rule a old new fault → RoundStops h n shown rule a old new fault
+  stops_wider m n mn shown rule a old new fault (inl (same, inl x)) = inl (same, inl (not_read_wider g h m n gh mn a.path fault x))
+  stops_wider m n mn shown rule a old new fault (inl (same, inr x)) = inl (same, inr x)
+  stops_wider m n mn shown rule a old new fault (inr x) = inr (record { parts = x.parts; read = read_wider a.path x.parts x.read; maker = x.maker; makes = x.makes; stops = x.stops })
 
 -- ---- facts on the way
 
@@ -211,41 +212,41 @@ none_at_all r n long before e is = by (slice_get_cases r.state.run_state.now.edg
 pub targets_inside : (p q : Parts) (names : List Text) (edges given : List ℕ) → q ≡ p → targets q names ≡ Ok edges → given ≡ edges → any_outside p given ≡ false
 targets_inside p q names edges given same is as' = ap (any_outside p) as' ∙ all_inside p names edges (same_targets p q names edges same is)
 
-pub targets_run : (rule : Rule) (a : Asked) (p q : Parts) (edges given : List ℕ) (ran : Result Report PlanFault) (r : Report) (old new : SinkState) (d : Done) → q ≡ p → targets q a.names ≡ Ok edges → given ≡ edges
-    → ran ≡ Ok r → IfOk ran (λ x. EndsPrinted rule (opened p a.limits given) x old new) → EndsAs p r d → RunsTargets rule a p old new d
-targets_run rule a p q edges given ran r old new d same is as' ok run ended =
+pub targets_run : (shown : Shown) (rule : Rule) (a : Asked) (p q : Parts) (edges given : List ℕ) (ran : Result Report PlanFault) (r : Report) (old new : SinkState) (d : Done) → q ≡ p → targets q a.names ≡ Ok edges → given ≡ edges
+    → ran ≡ Ok r → IfOk ran (λ x. EndsPrinted shown rule (opened p a.limits given) x old new) → EndsAs p r d → RunsTargets shown rule a p old new d
+targets_run shown rule a p q edges given ran r old new d same is as' ok run ended =
     record {
       edges = edges;
       targets = same_targets p q a.names edges same is;
       report = r;
-      run = subst (λ (es : List ℕ). EndsPrinted rule (opened p a.limits es) r old new) as' (ok_so (λ x. EndsPrinted rule (opened p a.limits given) x old new) ran r ok run);
+      run = subst (λ (es : List ℕ). EndsPrinted shown rule (opened p a.limits es) r old new) as' (ok_so (λ x. EndsPrinted shown rule (opened p a.limits given) x old new) ran r ok run);
       ends = ended;
     }
 
 -- No edge makes a target, or memory ran out.
-pub unknown_target : (a : Asked) (rule : Rule) (p q : Parts) (s : SinkState) (memory fault : PlanFault) → q ≡ p → (fault ≡ memory) ⊎ (targets q a.names ≡ Err fault) → ((fault ≡ memory) → LacksMemory fault)
-    → TargetsStop rule a p s s fault
-unknown_target a rule p q s memory fault same (inl is) lacks = inl (refl, inr (lacks is))
-unknown_target a rule p q s memory fault same (inr is) lacks = inl (refl, inl (ap (λ (x : Parts). targets x a.names) (sym same) ∙ is))
+pub unknown_target : (a : Asked) (shown : Shown) (rule : Rule) (p q : Parts) (s : SinkState) (memory fault : PlanFault) → q ≡ p → (fault ≡ memory) ⊎ (targets q a.names ≡ Err fault) → ((fault ≡ memory) → LacksMemory fault)
+    → TargetsStop shown rule a p s s fault
+unknown_target a shown rule p q s memory fault same (inl is) lacks = inl (refl, inr (lacks is))
+unknown_target a shown rule p q s memory fault same (inr is) lacks = inl (refl, inl (ap (λ (x : Parts). targets x a.names) (sym same) ∙ is))
 
-pub targets_stop : (rule : Rule) (a : Asked) (p q : Parts) (edges given : List ℕ) (old new : SinkState) (fault : PlanFault) → q ≡ p → targets q a.names ≡ Ok edges → given ≡ edges
-    → IsNotRun rule (opened p a.limits given) old new fault → TargetsStop rule a p old new fault
-targets_stop rule a p q edges given old new fault same is as' (inl x) = inl (x.0, inr (inr x.1))
-targets_stop rule a p q edges given old new fault same is as' (inr x) =
-    inr (edges, same_targets p q a.names edges same is, subst (λ (es : List ℕ). RunStops rule (opened p a.limits es) old new fault) as' x)
+pub targets_stop : (shown : Shown) (rule : Rule) (a : Asked) (p q : Parts) (edges given : List ℕ) (old new : SinkState) (fault : PlanFault) → q ≡ p → targets q a.names ≡ Ok edges → given ≡ edges
+    → IsNotRun shown rule (opened p a.limits given) old new fault → TargetsStop shown rule a p old new fault
+targets_stop shown rule a p q edges given old new fault same is as' (inl x) = inl (x.0, inr (inr x.1))
+targets_stop shown rule a p q edges given old new fault same is as' (inr x) =
+    inr (edges, same_targets p q a.names edges same is, subst (λ (es : List ℕ). RunStops shown rule (opened p a.limits es) old new fault) as' x)
 
 -- ---- rounds
 
 -- The given number of rounds were done, and the files may hold the same as before them.
-pub record AreRounds (g h : FileContents) (f k : PathSet) (b c : ℕ) (rule : Rule) (a : Asked) (n : ℕ) (old new : SinkState) : Type 0 where
+pub record AreRounds (g h : FileContents) (f k : PathSet) (b c : ℕ) (shown : Shown) (rule : Rule) (a : Asked) (n : ℕ) (old new : SinkState) : Type 0 where
   pub same : SameFiles h k g f
   pub count : c ≡ b
-  pub rounds : Rounds g rule a n old new
+  pub rounds : Rounds g shown rule a n old new
 
-pub no_rounds : (g : FileContents) (f : PathSet) (b : ℕ) (rule : Rule) (a : Asked) (s : SinkState) → AreRounds g g f f b b rule a 0 s s
-no_rounds g f b rule a s = record { same = (λ p bytes. (λ x. x, λ x. x), λ p. (λ x. x, λ x. x)); count = refl; rounds = no_round }
+pub no_rounds : (g : FileContents) (f : PathSet) (b : ℕ) (shown : Shown) (rule : Rule) (a : Asked) (s : SinkState) → AreRounds g g f f b b shown rule a 0 s s
+no_rounds g f b shown rule a s = record { same = (λ p bytes. (λ x. x, λ x. x), λ p. (λ x. x, λ x. x)); count = refl; rounds = no_round }
 
-module _ (g h : FileContents) (f k : PathSet) (b c : ℕ) (rule : Rule) (a : Asked) (n : ℕ) (old mid : SinkState) (so : AreRounds g h f k b c rule a n old mid) where
+module _ (g h : FileContents) (f k : PathSet) (b c : ℕ) (shown : Shown) (rule : Rule) (a : Asked) (n : ℕ) (old mid : SinkState) (so : AreRounds g h f k b c shown rule a n old mid) where
   back : (p : Text) (bytes : Option (List ℕ)) → h p bytes → g p bytes
   back p bytes x = (so.same.0 p bytes).0 x
 
@@ -253,7 +254,7 @@ module _ (g h : FileContents) (f k : PathSet) (b c : ℕ) (rule : Rule) (a : Ask
   missed d p (inl x) = inl (back p None x.0, x.1 ∙ so.count)
   missed d p (inr x) = inr ((so.same.1 p).0 x.0, x.1 ∙ ap (λ (i : ℕ). i + 1) so.count)
 
-  pub then_remade : (h2 : FileContents) (k2 : PathSet) (c2 : ℕ) (new : SinkState) → EndsRound h rule a mid new round.Remade → SameFiles h2 k2 h k → c2 ≡ c → AreRounds g h2 f k2 b c2 rule a (suc n) old new
+  pub then_remade : (h2 : FileContents) (k2 : PathSet) (c2 : ℕ) (new : SinkState) → EndsRound h shown rule a mid new round.Remade → SameFiles h2 k2 h k → c2 ≡ c → AreRounds g h2 f k2 b c2 shown rule a (suc n) old new
   then_remade h2 k2 c2 new ended files count =
       record {
         same = (
@@ -261,15 +262,15 @@ module _ (g h : FileContents) (f k : PathSet) (b c : ℕ) (rule : Rule) (a : Ask
           λ p. (λ x. (so.same.1 p).0 ((files.1 p).0 x), λ x. (files.1 p).1 ((so.same.1 p).1 x)),
         );
         count = count ∙ so.count;
-        rounds = one_more so.rounds (round_wider h g back rule a mid new round.Remade ended);
+        rounds = one_more so.rounds (round_wider h g back shown rule a mid new round.Remade ended);
       }
 
-  pub then_fails : (new : SinkState) → n < most_rounds → EndsRound h rule a mid new round.Failed → FailsToRemake g rule a old new
-  then_fails new few ended = record { rounds = n; few = few; middle = mid; remade = so.rounds; fails = round_wider h g back rule a mid new round.Failed ended }
+  pub then_fails : (new : SinkState) → n < most_rounds → EndsRound h shown rule a mid new round.Failed → FailsToRemake g shown rule a old new
+  then_fails new few ended = record { rounds = n; few = few; middle = mid; remade = so.rounds; fails = round_wider h g back shown rule a mid new round.Failed ended }
 
-  targets_built : (p : Parts) (later new : SinkState) (d : Done) → n < most_rounds → EndsRound h rule a mid later (round.UpToDate p) → RunsTargets rule a p later new d → BuildsTargets g rule a old new d
+  targets_built : (p : Parts) (later new : SinkState) (d : Done) → n < most_rounds → EndsRound h shown rule a mid later (round.UpToDate p) → RunsTargets shown rule a p later new d → BuildsTargets g shown rule a old new d
   targets_built p later new d few ended x =
-      let settled = round_wider h g back rule a mid later (round.UpToDate p) ended in
+      let settled = round_wider h g back shown rule a mid later (round.UpToDate p) ended in
       record {
         rounds = n;
         few = few;
@@ -286,25 +287,25 @@ module _ (g h : FileContents) (f k : PathSet) (b c : ℕ) (rule : Rule) (a : Ask
         ends = x.ends;
       }
 
-  then_built : (p : Parts) (later new : SinkState) (d : Done) → n < most_rounds → EndsRound h rule a mid later (round.UpToDate p) → RunsTargets rule a p later new d → Builds g rule a old new d
+  then_built : (p : Parts) (later new : SinkState) (d : Done) → n < most_rounds → EndsRound h shown rule a mid later (round.UpToDate p) → RunsTargets shown rule a p later new d → Builds g shown rule a old new d
   then_built p later new done.Built few ended x = targets_built p later new done.Built few ended x
   then_built p later new done.UpToDate few ended x = targets_built p later new done.UpToDate few ended x
   then_built p later new done.Failed few ended x = targets_built p later new done.Failed few ended x
   then_built p later new done.ManifestFails few ended x = absurd x.ends
   then_built p later new done.NeverSettles few ended x = absurd x.ends
 
-  pub all_built : {B : Type 0} (p : Parts) (later new : SinkState) (result : Result Done B) → n < most_rounds → EndsRound h rule a mid later (round.UpToDate p) → IfOk result (λ d. RunsTargets rule a p later new d)
-      → IfOk result (λ d. Builds g rule a old new d)
+  pub all_built : {B : Type 0} (p : Parts) (later new : SinkState) (result : Result Done B) → n < most_rounds → EndsRound h shown rule a mid later (round.UpToDate p) → IfOk result (λ d. RunsTargets shown rule a p later new d)
+      → IfOk result (λ d. Builds g shown rule a old new d)
   all_built p later new (Ok d) few ended x = then_built p later new d few ended x
   all_built p later new (Err fault) few ended x = tt
 
-  pub then_stops : (d : ℕ) (new : SinkState) (fault : PlanFault) → n < most_rounds → RoundStops h (IsMissing h k c d) rule a mid new fault → Stops g (IsMissing g f b d) rule a old new fault
+  pub then_stops : (d : ℕ) (new : SinkState) (fault : PlanFault) → n < most_rounds → RoundStops h (IsMissing h k c d) shown rule a mid new fault → Stops g (IsMissing g f b d) shown rule a old new fault
   then_stops d new fault few stops =
-      record { rounds = n; few = few; middle = mid; remade = so.rounds; stops = inl (stops_wider h g back (IsMissing h k c d) (IsMissing g f b d) (missed d) rule a mid new fault stops) }
+      record { rounds = n; few = few; middle = mid; remade = so.rounds; stops = inl (stops_wider h g back (IsMissing h k c d) (IsMissing g f b d) (missed d) shown rule a mid new fault stops) }
 
-  pub all_stopped : {B : Type 0} (missing : PathSet) (p : Parts) (later new : SinkState) (result : Result B PlanFault) → n < most_rounds → EndsRound h rule a mid later (round.UpToDate p)
-      → IfErr result (λ fault. TargetsStop rule a p later new fault) → IfErr result (λ fault. Stops g missing rule a old new fault)
+  pub all_stopped : {B : Type 0} (missing : PathSet) (p : Parts) (later new : SinkState) (result : Result B PlanFault) → n < most_rounds → EndsRound h shown rule a mid later (round.UpToDate p)
+      → IfErr result (λ fault. TargetsStop shown rule a p later new fault) → IfErr result (λ fault. Stops g missing shown rule a old new fault)
   all_stopped missing p later new (Ok d) few ended why = tt
   all_stopped missing p later new (Err fault) few ended why =
-      let settled = round_wider h g back rule a mid later (round.UpToDate p) ended in
+      let settled = round_wider h g back shown rule a mid later (round.UpToDate p) ended in
       record { rounds = n; few = few; middle = mid; remade = so.rounds; stops = inr (record { parts = p; read = settled.0; later = later; settled = settled.1; stops = why }) }

@@ -2,6 +2,7 @@ pub mod Rows
 pub mod VerdictsLemmas
 mod MakerLemmas
 mod TargetLemmas
+mod ShowingLemmas
 mod RunningLemmas
 mod BufferLemmas
 mod BuildingLemmas

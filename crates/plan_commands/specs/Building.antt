@@ -26,6 +26,7 @@ use Rattle.plan_commands.specs.declared.building.Round.TheVariants as round
 use Rattle.plan_commands.specs.Faults.{no_memory}
 use Rattle.plan_commands.specs.Compiling.{IsImageOf, IsNotCompiled}
 use Rattle.plan_commands.specs.Images.{SinkState}
+use Rattle.plan_commands.specs.Showing.{Shown}
 use Rattle.plan_commands.specs.Running.{EndsPrinted, LanesStop, FailsToPrint, opening_memory, printed_lane_fault, printed_print_fault}
 use Rattle.plan_commands.specs.Targets.{target, targets}
 
@@ -73,20 +74,20 @@ outcome_in r e = outcome_at (slice_get r.state.run_state.now.edges e)
 
 -- A round: the manifest was read, and its maker was run as the only target. All edges that the maker needs succeeded,
 -- and the maker's command ran.
-pub record Remakes (gives : FileContents) (rule : Rule) (a : Asked) (old new : SinkState) : Type 0 where
+pub record Remakes (gives : FileContents) (shown : Shown) (rule : Rule) (a : Asked) (old new : SinkState) : Type 0 where
   pub parts : Parts
   pub read : IsRead gives a.path parts
   pub maker : ℕ
   pub makes : maker_of parts a.path ≡ Some maker
   pub report : Report
-  pub run : EndsPrinted rule (opened parts a.limits (maker ∷ [])) report old new
+  pub run : EndsPrinted shown rule (opened parts a.limits (maker ∷ [])) report old new
   pub well : all_done parts report.state.run_state.now ≡ true
   pub ran : outcome_in report maker ≡ Some Ran
 
 -- The given number of rounds, one after another.
-pub data Rounds (gives : FileContents) (rule : Rule) (a : Asked) : ℕ → SinkState → SinkState → Type 0 where
-  no_round : {s : SinkState} → Rounds gives rule a 0 s s
-  one_more : {n : ℕ} {s t u : SinkState} → Rounds gives rule a n s t → Remakes gives rule a t u → Rounds gives rule a (suc n) s u
+pub data Rounds (gives : FileContents) (shown : Shown) (rule : Rule) (a : Asked) : ℕ → SinkState → SinkState → Type 0 where
+  no_round : {s : SinkState} → Rounds gives shown rule a 0 s s
+  one_more : {n : ℕ} {s t u : SinkState} → Rounds gives shown rule a n s t → Remakes gives shown rule a t u → Rounds gives shown rule a (suc n) s u
 
 -- No edge makes the manifest that was read.
 pub record HasNoMaker (a : Asked) (p : Parts) (old new : SinkState) : Type 0 where
@@ -94,26 +95,26 @@ pub record HasNoMaker (a : Asked) (p : Parts) (old new : SinkState) : Type 0 whe
   pub same : new ≡ old
 
 -- The maker was run as the only target. All edges that it needs succeeded, and its command did not run.
-pub record MakerIsClean (rule : Rule) (a : Asked) (p : Parts) (old new : SinkState) : Type 0 where
+pub record MakerIsClean (shown : Shown) (rule : Rule) (a : Asked) (p : Parts) (old new : SinkState) : Type 0 where
   pub maker : ℕ
   pub makes : maker_of p a.path ≡ Some maker
   pub report : Report
-  pub run : EndsPrinted rule (opened p a.limits (maker ∷ [])) report old new
+  pub run : EndsPrinted shown rule (opened p a.limits (maker ∷ [])) report old new
   pub well : all_done p report.state.run_state.now ≡ true
   pub clean : (outcome_in report maker ≡ Some Ran) → ⊥
 
 -- The manifest that was read is up to date.
-abbrev pub IsUpToDate : Rule → Asked → Parts → (old new : SinkState) → Type 0
-IsUpToDate rule a p old new = HasNoMaker a p old new ⊎ MakerIsClean rule a p old new
+abbrev pub IsUpToDate : Shown → Rule → Asked → Parts → (old new : SinkState) → Type 0
+IsUpToDate shown rule a p old new = HasNoMaker a p old new ⊎ MakerIsClean shown rule a p old new
 
 -- The maker was run as the only target. An edge that the maker needs, or the maker, did not succeed.
-pub record MakerFails (gives : FileContents) (rule : Rule) (a : Asked) (old new : SinkState) : Type 0 where
+pub record MakerFails (gives : FileContents) (shown : Shown) (rule : Rule) (a : Asked) (old new : SinkState) : Type 0 where
   pub parts : Parts
   pub read : IsRead gives a.path parts
   pub maker : ℕ
   pub makes : maker_of parts a.path ≡ Some maker
   pub report : Report
-  pub run : EndsPrinted rule (opened parts a.limits (maker ∷ [])) report old new
+  pub run : EndsPrinted shown rule (opened parts a.limits (maker ∷ [])) report old new
   pub ill : all_done parts report.state.run_state.now ≡ false
 
 -- ---- the build
@@ -147,38 +148,38 @@ exit_status done.ManifestFails = 1
 exit_status done.NeverSettles = 1
 
 -- After fewer than 100 rounds, the manifest that was read last is up to date, and its image was run for the edges of
--- the named targets. The run has ended, and its lines were printed after the lines of the rounds. Its report determines
+-- the named targets. The run has ended, and it was shown after the rounds, in the same way. Its report determines
 -- how the build ends.
-pub record BuildsTargets (gives : FileContents) (rule : Rule) (a : Asked) (old new : SinkState) (d : Done) : Type 0 where
+pub record BuildsTargets (gives : FileContents) (shown : Shown) (rule : Rule) (a : Asked) (old new : SinkState) (d : Done) : Type 0 where
   pub rounds : ℕ
   pub few : rounds < most_rounds
   pub middle : SinkState
-  pub remade : Rounds gives rule a rounds old middle
+  pub remade : Rounds gives shown rule a rounds old middle
   pub parts : Parts
   pub read : IsRead gives a.path parts
   pub later : SinkState
-  pub settled : IsUpToDate rule a parts middle later
+  pub settled : IsUpToDate shown rule a parts middle later
   pub edges : List ℕ
   pub targets : targets parts a.names ≡ Ok edges
   pub report : Report
-  pub run : EndsPrinted rule (opened parts a.limits edges) report later new
+  pub run : EndsPrinted shown rule (opened parts a.limits edges) report later new
   pub ends : EndsAs parts report d
 
 -- After fewer than 100 rounds, the manifest's maker failed.
-pub record FailsToRemake (gives : FileContents) (rule : Rule) (a : Asked) (old new : SinkState) : Type 0 where
+pub record FailsToRemake (gives : FileContents) (shown : Shown) (rule : Rule) (a : Asked) (old new : SinkState) : Type 0 where
   pub rounds : ℕ
   pub few : rounds < most_rounds
   pub middle : SinkState
-  pub remade : Rounds gives rule a rounds old middle
-  pub fails : MakerFails gives rule a middle new
+  pub remade : Rounds gives shown rule a rounds old middle
+  pub fails : MakerFails gives shown rule a middle new
 
 -- How a build goes that ends in this way.
-abbrev pub Builds : FileContents → Rule → Asked → (old new : SinkState) → Done → Type 0
-Builds gives rule a old new done.Built = BuildsTargets gives rule a old new done.Built
-Builds gives rule a old new done.UpToDate = BuildsTargets gives rule a old new done.UpToDate
-Builds gives rule a old new done.Failed = BuildsTargets gives rule a old new done.Failed
-Builds gives rule a old new done.ManifestFails = FailsToRemake gives rule a old new
-Builds gives rule a old new done.NeverSettles = Rounds gives rule a most_rounds old new
+abbrev pub Builds : FileContents → Shown → Rule → Asked → (old new : SinkState) → Done → Type 0
+Builds gives shown rule a old new done.Built = BuildsTargets gives shown rule a old new done.Built
+Builds gives shown rule a old new done.UpToDate = BuildsTargets gives shown rule a old new done.UpToDate
+Builds gives shown rule a old new done.Failed = BuildsTargets gives shown rule a old new done.Failed
+Builds gives shown rule a old new done.ManifestFails = FailsToRemake gives shown rule a old new
+Builds gives shown rule a old new done.NeverSettles = Rounds gives shown rule a most_rounds old new
 
 -- ---- why a build stops
 
@@ -190,54 +191,54 @@ IsNotRead gives missing path fault = IsNotCompiled Stricter (LoadsFirst gives mi
 abbrev pub LacksMemory : PlanFault → Type 0
 LacksMemory fault = (fault ≡ no_memory) ⊎ (fault ≡ opening_memory)
 
--- A run that began did not end, or its lines were not printed to the end.
-abbrev pub RunStops : Rule → Opened → (old new : SinkState) → PlanFault → Type 0
-RunStops rule o old new fault = (r : Report) × (LanesStop rule o r old new fault ⊎ FailsToPrint rule o r old new fault)
+-- A run that began did not end, or it was not shown to its end.
+abbrev pub RunStops : Shown → Rule → Opened → (old new : SinkState) → PlanFault → Type 0
+RunStops shown rule o old new fault = (r : Report) × (LanesStop shown rule o r old new fault ⊎ FailsToPrint shown rule o r old new fault)
 
 -- No run was opened, and nothing was printed. Or a run stopped.
-abbrev pub IsNotRun : Rule → Opened → (old new : SinkState) → PlanFault → Type 0
-IsNotRun rule o old new fault = ((new ≡ old) × (fault ≡ opening_memory)) ⊎ RunStops rule o old new fault
+abbrev pub IsNotRun : Shown → Rule → Opened → (old new : SinkState) → PlanFault → Type 0
+IsNotRun shown rule o old new fault = ((new ≡ old) × (fault ≡ opening_memory)) ⊎ RunStops shown rule o old new fault
 
 -- The run of the manifest's maker stops.
-pub record MakerStops (gives : FileContents) (rule : Rule) (a : Asked) (old new : SinkState) (fault : PlanFault) : Type 0 where
+pub record MakerStops (gives : FileContents) (shown : Shown) (rule : Rule) (a : Asked) (old new : SinkState) (fault : PlanFault) : Type 0 where
   pub parts : Parts
   pub read : IsRead gives a.path parts
   pub maker : ℕ
   pub makes : maker_of parts a.path ≡ Some maker
-  pub stops : RunStops rule (opened parts a.limits (maker ∷ [])) old new fault
+  pub stops : RunStops shown rule (opened parts a.limits (maker ∷ [])) old new fault
 
 -- The reasons why a round stops. Either the manifest can't be read or memory ran out, and nothing of the round was
 -- printed. Or the run of the maker stops.
-abbrev pub RoundStops : FileContents → PathSet → Rule → Asked → (old new : SinkState) → PlanFault → Type 0
-RoundStops gives missing rule a old new fault =
-    ((new ≡ old) × (IsNotRead gives missing a.path fault ⊎ LacksMemory fault)) ⊎ MakerStops gives rule a old new fault
+abbrev pub RoundStops : FileContents → PathSet → Shown → Rule → Asked → (old new : SinkState) → PlanFault → Type 0
+RoundStops gives missing shown rule a old new fault =
+    ((new ≡ old) × (IsNotRead gives missing a.path fault ⊎ LacksMemory fault)) ⊎ MakerStops gives shown rule a old new fault
 
 -- The reasons why the targets of an image aren't built. Either no edge makes a target (the first one is named) or
 -- memory ran out, and nothing was printed. Or the run for the edges of the targets stops.
-abbrev pub TargetsStop : Rule → Asked → Parts → (old new : SinkState) → PlanFault → Type 0
-TargetsStop rule a p old new fault =
+abbrev pub TargetsStop : Shown → Rule → Asked → Parts → (old new : SinkState) → PlanFault → Type 0
+TargetsStop shown rule a p old new fault =
     ((new ≡ old) × ((targets p a.names ≡ Err fault) ⊎ LacksMemory fault))
-    ⊎ ((edges : List ℕ) × (targets p a.names ≡ Ok edges) × RunStops rule (opened p a.limits edges) old new fault)
+    ⊎ ((edges : List ℕ) × (targets p a.names ≡ Ok edges) × RunStops shown rule (opened p a.limits edges) old new fault)
 
 -- The manifest that was read last is up to date, and its targets aren't built.
-pub record LastRunStops (gives : FileContents) (rule : Rule) (a : Asked) (old new : SinkState) (fault : PlanFault) : Type 0 where
+pub record LastRunStops (gives : FileContents) (shown : Shown) (rule : Rule) (a : Asked) (old new : SinkState) (fault : PlanFault) : Type 0 where
   pub parts : Parts
   pub read : IsRead gives a.path parts
   pub later : SinkState
-  pub settled : IsUpToDate rule a parts old later
-  pub stops : TargetsStop rule a parts later new fault
+  pub settled : IsUpToDate shown rule a parts old later
+  pub stops : TargetsStop shown rule a parts later new fault
 
 -- The reasons why a build stops: after fewer than 100 rounds, the next round stops, or the run for the targets stops.
-pub record Stops (gives : FileContents) (missing : PathSet) (rule : Rule) (a : Asked) (old new : SinkState) (fault : PlanFault) : Type 0 where
+pub record Stops (gives : FileContents) (missing : PathSet) (shown : Shown) (rule : Rule) (a : Asked) (old new : SinkState) (fault : PlanFault) : Type 0 where
   pub rounds : ℕ
   pub few : rounds < most_rounds
   pub middle : SinkState
-  pub remade : Rounds gives rule a rounds old middle
-  pub stops : RoundStops gives missing rule a middle new fault ⊎ LastRunStops gives rule a middle new fault
+  pub remade : Rounds gives shown rule a rounds old middle
+  pub stops : RoundStops gives missing shown rule a middle new fault ⊎ LastRunStops gives shown rule a middle new fault
 
 -- ---- parts of a build
 
--- The reasons why there is no report of a run that has ended and whose lines were printed.
+-- The reasons why there is no report of a run that has ended and was shown to its end.
 abbrev pub IsLost : Result Report LaneFault → Option PrintFault → PlanFault → Type 0
 IsLost (Ok report) (Some stop) fault = (fault ≡ printed_print_fault stop) ⊎ (fault ≡ no_memory)
 IsLost (Ok report) None fault = ⊥
@@ -250,15 +251,15 @@ IsRoundOf p maker r round.Remade = (all_done p r.state.run_state.now ≡ true) �
 IsRoundOf p maker r round.Failed = all_done p r.state.run_state.now ≡ false
 
 -- How a round goes that ends in this way.
-abbrev pub EndsRound : FileContents → Rule → Asked → (old new : SinkState) → Round → Type 0
-EndsRound gives rule a old new (round.UpToDate p) = IsRead gives a.path p × IsUpToDate rule a p old new
-EndsRound gives rule a old new round.Remade = Remakes gives rule a old new
-EndsRound gives rule a old new round.Failed = MakerFails gives rule a old new
+abbrev pub EndsRound : FileContents → Shown → Rule → Asked → (old new : SinkState) → Round → Type 0
+EndsRound gives shown rule a old new (round.UpToDate p) = IsRead gives a.path p × IsUpToDate shown rule a p old new
+EndsRound gives shown rule a old new round.Remade = Remakes gives shown rule a old new
+EndsRound gives shown rule a old new round.Failed = MakerFails gives shown rule a old new
 
 -- An image was run for the wanted edges, and the build ends in this way.
-pub record RunsTargets (rule : Rule) (a : Asked) (p : Parts) (old new : SinkState) (d : Done) : Type 0 where
+pub record RunsTargets (shown : Shown) (rule : Rule) (a : Asked) (p : Parts) (old new : SinkState) (d : Done) : Type 0 where
   pub edges : List ℕ
   pub targets : targets p a.names ≡ Ok edges
   pub report : Report
-  pub run : EndsPrinted rule (opened p a.limits edges) report old new
+  pub run : EndsPrinted shown rule (opened p a.limits edges) report old new
   pub ends : EndsAs p report d

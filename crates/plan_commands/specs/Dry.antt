@@ -9,6 +9,7 @@ use Rattle.plan_commands.specs.declared.fault.PlanFault.{PlanFault}
 use Rattle.plan_commands.specs.declared.building.Done.{Done}
 use Rattle.plan_commands.specs.declared.building.Done.TheVariants as done
 use Rattle.plan_commands.specs.Images.{SinkState}
+use Rattle.plan_commands.specs.Showing.{Shown}
 use Rattle.plan_commands.specs.Building.{Asked, IsRead, IsUpToDate, Remakes, MakerFails, RunsTargets, RoundStops, LastRunStops}
 
 -- The rule of a world in which no command runs. Replies about files and the record are allowed by another rule. Each
@@ -21,22 +22,22 @@ dry_rule rule number (Deps path) r = r ≡ reply.Nothing
 dry_rule rule number (Keep output command basis paths) r = r ≡ reply.Kept
 
 -- The manifest is up to date, and its image was run for the targets.
-pub record PreviewsTargets (gives : FileContents) (rule : Rule) (a : Asked) (old new : SinkState) (d : Done) : Type 0 where
+pub record PreviewsTargets (gives : FileContents) (shown : Shown) (rule : Rule) (a : Asked) (old new : SinkState) (d : Done) : Type 0 where
   pub parts : Parts
   pub read : IsRead gives a.path parts
   pub middle : SinkState
-  pub settled : IsUpToDate rule a parts old middle
-  pub run : RunsTargets rule a parts middle new d
+  pub settled : IsUpToDate shown rule a parts old middle
+  pub run : RunsTargets shown rule a parts middle new d
 
 -- How a dry build goes that ends in this way. It ends as `Built` if a command would run, even if only the command of
 -- the manifest's maker.
-abbrev pub Previews : FileContents → Rule → Asked → (old new : SinkState) → Done → Type 0
-Previews gives rule a old new done.Built = Remakes gives rule a old new ⊎ PreviewsTargets gives rule a old new done.Built
-Previews gives rule a old new done.UpToDate = PreviewsTargets gives rule a old new done.UpToDate
-Previews gives rule a old new done.Failed = PreviewsTargets gives rule a old new done.Failed
-Previews gives rule a old new done.ManifestFails = MakerFails gives rule a old new
-Previews gives rule a old new done.NeverSettles = ⊥
+abbrev pub Previews : FileContents → Shown → Rule → Asked → (old new : SinkState) → Done → Type 0
+Previews gives shown rule a old new done.Built = Remakes gives shown rule a old new ⊎ PreviewsTargets gives shown rule a old new done.Built
+Previews gives shown rule a old new done.UpToDate = PreviewsTargets gives shown rule a old new done.UpToDate
+Previews gives shown rule a old new done.Failed = PreviewsTargets gives shown rule a old new done.Failed
+Previews gives shown rule a old new done.ManifestFails = MakerFails gives shown rule a old new
+Previews gives shown rule a old new done.NeverSettles = ⊥
 
 -- The reasons why a dry build stops: the round stops, or the run for the targets stops.
-abbrev pub DryStops : FileContents → PathSet → Rule → Asked → (old new : SinkState) → PlanFault → Type 0
-DryStops gives missing rule a old new fault = RoundStops gives missing rule a old new fault ⊎ LastRunStops gives rule a old new fault
+abbrev pub DryStops : FileContents → PathSet → Shown → Rule → Asked → (old new : SinkState) → PlanFault → Type 0
+DryStops gives missing shown rule a old new fault = RoundStops gives missing shown rule a old new fault ⊎ LastRunStops gives shown rule a old new fault

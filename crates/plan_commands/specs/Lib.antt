@@ -10,5 +10,6 @@ pub mod Images
 pub mod MakerMaps
 pub mod Replaying
 pub mod Verdicts
+pub mod Showing
 pub mod Running
 pub mod Targets

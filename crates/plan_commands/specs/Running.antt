@@ -23,6 +23,7 @@ use Rattle.plan_lanes.specs.declared.fault.LaneFault.{LaneFault}
 use Rattle.plan_commands.specs.declared.fault.PlanFault.{PlanFault}
 use Rattle.plan_commands.specs.Faults.{file_fault, no_memory, output_fault}
 use Rattle.plan_commands.specs.Images.{SinkState, IsImageAt}
+use Rattle.plan_commands.specs.Showing.{IsShown, Shown, as_lines}
 use Rattle.plan_commands.specs.Targets.{targets}
 use Rattle.plan_commands.specs.Verdicts.{IsRejected}
 
@@ -69,19 +70,18 @@ report_in (Err fault) = report_of fault
 abbrev pub Written : Type 0
 Written = SinkState × SinkState
 
--- A run that was opened in this way has ended. The rule of the world allows each reply in it. Its status lines were
--- printed.
-pub record EndsPrinted (rule : Rule) (o : Opened) (r : Report) (old new : SinkState) : Type 0 where
+-- A run that was opened in this way has ended. The rule of the world allows each reply in it. It was shown in this way.
+pub record EndsPrinted (shown : Shown) (rule : Rule) (o : Opened) (r : Report) (old new : SinkState) : Type 0 where
   pub run : IsRunOf rule o r
   pub ended : has_ended r.state.run_state.now ≡ true
-  pub printed : Prints (lines_in o.parts r) None old new
+  pub printed : IsShown shown o.parts r None old new
 
 -- A run of an image that the source may give has ended, its status lines were printed, and its trace was written.
 pub record Runs (gives : FileContents) (rule : Rule) (w : Wanted) (old new : Written) (status : ℕ) : Type 0 where
   pub opened : Opened
   pub is : IsOpened gives w opened
   pub report : Report
-  pub ends : EndsPrinted rule opened report old.0 new.0
+  pub ends : EndsPrinted as_lines rule opened report old.0 new.0
   pub write_trace_of : Traces w.trace opened.limits opened.targets report true old.1 new.1
   pub answers : status ≡ status_of (all_done opened.parts report.state.run_state.now)
 
@@ -111,21 +111,21 @@ IsNotBegun gives missing w fault =
 abbrev pub printed_lane_fault : LaneFault → PlanFault
 printed_lane_fault fault = record { number = number_of fault; rest = [] }
 
--- A run began, and lanes stopped early. The lines of the work until then were printed, or a prefix of them.
-pub record LanesStop (rule : Rule) (o : Opened) (r : Report) (old new : SinkState) (fault : PlanFault) : Type 0 where
+-- A run began, and lanes stopped early. The work until then was shown in this way, perhaps not to its end.
+pub record LanesStop (shown : Shown) (rule : Rule) (o : Opened) (r : Report) (old new : SinkState) (fault : PlanFault) : Type 0 where
   pub run : IsRunOf rule o r
   pub stop : Option PrintFault
-  pub printed : Prints (lines_in o.parts r) stop old new
+  pub printed : IsShown shown o.parts r stop old new
   pub stopped : LaneFault
   pub reports : report_of stopped ≡ Some r
   pub says : fault ≡ printed_lane_fault stopped
 
--- A run has ended, and its lines weren't printed to the end.
-pub record FailsToPrint (rule : Rule) (o : Opened) (r : Report) (old new : SinkState) (fault : PlanFault) : Type 0 where
+-- A run has ended, and it wasn't shown to its end.
+pub record FailsToPrint (shown : Shown) (rule : Rule) (o : Opened) (r : Report) (old new : SinkState) (fault : PlanFault) : Type 0 where
   pub run : IsRunOf rule o r
   pub ended : has_ended r.state.run_state.now ≡ true
   pub stop : PrintFault
-  pub printed : Prints (lines_in o.parts r) (Some stop) old new
+  pub printed : IsShown shown o.parts r (Some stop) old new
   pub says : (fault ≡ printed_print_fault stop) ⊎ (fault ≡ no_memory)
 
 -- A run stopped. The trace of the work until then was written whole, or a write of its file failed.
@@ -133,7 +133,7 @@ pub record StopsEarly (gives : FileContents) (rule : Rule) (w : Wanted) (old new
   pub opened : Opened
   pub is : IsOpened gives w opened
   pub report : Report
-  pub stops : LanesStop rule opened report old.0 new.0 fault
+  pub stops : LanesStop as_lines rule opened report old.0 new.0 fault
   pub whole : Bool
   pub write_trace_of : Traces w.trace opened.limits opened.targets report whole old.1 new.1
 
@@ -142,7 +142,7 @@ pub record FailsToTell (gives : FileContents) (rule : Rule) (w : Wanted) (old ne
   pub opened : Opened
   pub is : IsOpened gives w opened
   pub report : Report
-  pub fails : FailsToPrint rule opened report old.0 new.0 fault
+  pub fails : FailsToPrint as_lines rule opened report old.0 new.0 fault
   pub whole : Bool
   pub write_trace_of : Traces w.trace opened.limits opened.targets report whole old.1 new.1
 
@@ -151,7 +151,7 @@ pub record FailsToTrace (gives : FileContents) (rule : Rule) (w : Wanted) (old n
   pub opened : Opened
   pub is : IsOpened gives w opened
   pub report : Report
-  pub ends : EndsPrinted rule opened report old.0 new.0
+  pub ends : EndsPrinted as_lines rule opened report old.0 new.0
   pub write_trace_of : Traces w.trace opened.limits opened.targets report false old.1 new.1
   pub says : (fault ≡ printed_trace_fault w.trace) ⊎ (fault ≡ no_memory)
 

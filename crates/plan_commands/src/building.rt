@@ -14,11 +14,12 @@ ghost use Rattle.plan_commands.specs.Faults as faults;
 ghost use Rattle.plan_commands.specs.Building as defined;
 ghost use Rattle.plan_commands.specs.Building.{Builds, EndsAs, EndsRound, HasRun, HasRunNothing, IsLost, IsNotRead, IsNotRun, IsRead, IsRoundOf, RoundStops, RunsTargets, Stops, TargetsStop};
 ghost use Rattle.plan_commands.specs.Running.{EndsPrinted};
+ghost use Rattle.plan_commands.specs.Showing.{by_format};
 
 use crate::commands::manifest_at;
 use crate::compiling::image_of;
 use crate::fault::{PlanFault, no_memory};
-use crate::printed_runs::{RunResult, run_with_lines};
+use crate::printed_runs::{Printer, RunResult, run_and_show};
 use crate::running::{printed_lane_fault, printed_print_fault};
 use crate::targets::targets_of;
 use plan_compile::OutOfDateRule;
@@ -26,7 +27,7 @@ use plan_image::{Image, edge_of};
 use plan_lanes::{Report, World};
 use plan_machine::{Options, Outcome};
 use plan_scope::{Manifest, Source, loaded_manifests_are_sound};
-use plan_status::all_done;
+use plan_status::{Format, all_done};
 use plan_text::{Sink, TextFault, canonical};
 use plan_verify::Verified;
 use std::alloc::Global;
@@ -121,7 +122,7 @@ fn maker_of(alloc: Global, image: &Image, path: &[u8]) -> Result<Option<u32>, Pl
     Ok(edge_of(image, &path))
 }
 
-/// Returns the report of a run that has ended, if all its lines were printed.
+/// Returns the report of a run that has ended, if all its marks were printed.
 fn printed_run(alloc: Global, run_result: RunResult) -> Result<Report, PlanFault>
     ensures done { IfOk result (λ r. (run_result.ran ≡ Ok r) × (result_err run_result.printed ≡ None)) }
     ensures fault { IfErr result (λ fault. IsLost run_result.ran (result_err run_result.printed) fault) }
@@ -140,8 +141,13 @@ fn printed_run(alloc: Global, run_result: RunResult) -> Result<Report, PlanFault
     }
 }
 
-/// Runs an image for the given edges, prints its status lines, and returns its report and the sink.
-fn run_edges<W: World + Send + Sync, O: Sink + Send + Drop, R: Threads + Wait + Sync>(
+/// Runs an image for the given edges, prints its marks, and returns its report and the printer.
+fn run_edges<
+    W: World + Send + Sync,
+    F: Format + Send + Drop,
+    O: Sink + Send + Drop,
+    R: Threads + Wait + Sync,
+>(
     rt: &R,
     alloc: Global,
     image: &Verified,
@@ -149,14 +155,18 @@ fn run_edges<W: World + Send + Sync, O: Sink + Send + Drop, R: Threads + Wait + 
     edges: &[u32],
     world: &W,
     parker: &Parker,
-    out: O,
-) -> (Result<Report, PlanFault>, O)
+    printer: Printer<F, O>,
+) -> (Result<Report, PlanFault>, Printer<F, O>)
     requires { any_outside image.now edges.now ≡ false }
-    ensures ran { IfOk result.0 (λ r. EndsPrinted W.allows (defined.opened image.now options edges.now) r (O.failures out, O.taken out) (O.failures result.1, O.taken result.1)) }
-    ensures refused { IfErr result.0 (λ fault. IsNotRun W.allows (defined.opened image.now options edges.now) (O.failures out, O.taken out) (O.failures result.1, O.taken result.1) fault) }
+    ensures ran { (kept : F.Kept) → F.kept printer.format ≡ kept → IfOk result.0 (λ r. EndsPrinted (by_format F.kept F.tells kept) W.allows (defined.opened image.now options edges.now) r (O.failures printer.out, O.taken printer.out) (O.failures result.1.out, O.taken result.1.out)) }
+    ensures refused { (kept : F.Kept) → F.kept printer.format ≡ kept → IfErr result.0 (λ fault. IsNotRun (by_format F.kept F.tells kept) W.allows (defined.opened image.now options edges.now) (O.failures printer.out, O.taken printer.out) (O.failures result.1.out, O.taken result.1.out) fault) }
+    ensures state { IfOk result.0 (λ r. IsStateOf image.now r.state) }
+    ensures format { F.kept result.1.format ≡ F.kept printer.format }
 {
-    let (run_result, out) = run_with_lines(rt, alloc, image, options, edges, world, parker, out);
-    (printed_run(alloc, run_result), out)
+    let (run_result, printer) = run_and_show(
+        rt, alloc, image, options, edges, world, parker, printer,
+    );
+    (printed_run(alloc, run_result), printer)
 }
 
 /// How a round ended.
@@ -192,6 +202,7 @@ fn round_of(image: Verified, maker: u32, report: Report) -> Round
 pub(crate) fn update_manifest<
     S: Source,
     W: World + Send + Sync,
+    F: Format + Send + Drop,
     O: Sink + Send + Drop,
     R: Threads + Wait + Sync,
 >(
@@ -201,29 +212,30 @@ pub(crate) fn update_manifest<
     order: &Order<'_>,
     world: &W,
     parker: &Parker,
-    out: O,
-) -> (Result<Round, PlanFault>, O)
+    printer: Printer<F, O>,
+) -> (Result<Round, PlanFault>, Printer<F, O>)
     ensures round { let a = defined.asked order.now.manifest.now order.now.options (map (λ n. n.now) order.now.targets.now) in
-        IfOk result.0 (λ r. EndsRound (S.gives source.old) W.allows a (O.failures out, O.taken out) (O.failures result.1, O.taken result.1) r) }
+        (kept : F.Kept) → F.kept printer.format ≡ kept → IfOk result.0 (λ r. EndsRound (S.gives source.old) (by_format F.kept F.tells kept) W.allows a (O.failures printer.out, O.taken printer.out) (O.failures result.1.out, O.taken result.1.out) r) }
     ensures whole { OnOk result.0 (S.failures source.new ≡ S.failures source.old) }
     ensures same { SameFiles (S.gives source.new) (S.fails source.new) (S.gives source.old) (S.fails source.old) }
     ensures refused { let a = defined.asked order.now.manifest.now order.now.options (map (λ n. n.now) order.now.targets.now) in
         let missing = IsMissing (S.gives source.old) (S.fails source.old) (S.failures source.old) (S.failures source.new) in
-        IfErr result.0 (λ fault. RoundStops (S.gives source.old) missing W.allows a (O.failures out, O.taken out) (O.failures result.1, O.taken result.1) fault) }
+        (kept : F.Kept) → F.kept printer.format ≡ kept → IfErr result.0 (λ fault. RoundStops (S.gives source.old) missing (by_format F.kept F.tells kept) W.allows a (O.failures printer.out, O.taken printer.out) (O.failures result.1.out, O.taken result.1.out) fault) }
+    ensures format { F.kept result.1.format ≡ F.kept printer.format }
 {
     let image = match read_image(alloc, source, order.manifest) {
         Ok(image) => image,
-        Err(fault) => return (Err(fault), out),
+        Err(fault) => return (Err(fault), printer),
     };
     let maker = match maker_of(alloc, image.image(), order.manifest) {
         Ok(Some(maker)) => maker,
-        Ok(None) => return (Ok(Round::UpToDate(image)), out),
+        Ok(None) => return (Ok(Round::UpToDate(image)), printer),
         Err(fault) => {
             forget(image);
-            return (Err(fault), out);
+            return (Err(fault), printer);
         }
     };
-    let (ran, out) = run_edges(
+    let (ran, printer) = run_edges(
         rt,
         alloc,
         &image,
@@ -231,13 +243,13 @@ pub(crate) fn update_manifest<
         &[maker],
         world,
         parker,
-        out,
+        printer,
     );
     match ran {
-        Ok(report) => (Ok(round_of(image, maker, report)), out),
+        Ok(report) => (Ok(round_of(image, maker, report)), printer),
         Err(fault) => {
             forget(image);
-            (Err(fault), out)
+            (Err(fault), printer)
         }
     }
 }
@@ -273,6 +285,7 @@ fn end_of(image: &Verified, report: &Report) -> Done
 /// Builds the targets with the image of a manifest that is up to date, and returns how the build ended.
 pub(crate) fn build_targets<
     W: World + Send + Sync,
+    F: Format + Send + Drop,
     O: Sink + Send + Drop,
     R: Threads + Wait + Sync,
 >(
@@ -282,38 +295,48 @@ pub(crate) fn build_targets<
     order: &Order<'_>,
     world: &W,
     parker: &Parker,
-    out: O,
-) -> (Result<Done, PlanFault>, O)
+    printer: Printer<F, O>,
+) -> (Result<Done, PlanFault>, Printer<F, O>)
     ensures done { let a = defined.asked order.now.manifest.now order.now.options (map (λ n. n.now) order.now.targets.now) in
-        IfOk result.0 (λ d. RunsTargets W.allows a image (O.failures out, O.taken out) (O.failures result.1, O.taken result.1) d) }
+        (kept : F.Kept) → F.kept printer.format ≡ kept → IfOk result.0 (λ d. RunsTargets (by_format F.kept F.tells kept) W.allows a image (O.failures printer.out, O.taken printer.out) (O.failures result.1.out, O.taken result.1.out) d) }
     ensures refused { let a = defined.asked order.now.manifest.now order.now.options (map (λ n. n.now) order.now.targets.now) in
-        IfErr result.0 (λ fault. TargetsStop W.allows a image (O.failures out, O.taken out) (O.failures result.1, O.taken result.1) fault) }
+        (kept : F.Kept) → F.kept printer.format ≡ kept → IfErr result.0 (λ fault. TargetsStop (by_format F.kept F.tells kept) W.allows a image (O.failures printer.out, O.taken printer.out) (O.failures result.1.out, O.taken result.1.out) fault) }
+    ensures format { F.kept result.1.format ≡ F.kept printer.format }
 {
     let edges = match targets_of(alloc, image.image(), order.targets) {
         Ok(edges) => edges,
         Err(fault) => {
             forget(image);
-            return (Err(fault), out);
+            return (Err(fault), printer);
         }
     };
-    let (ran, out) = run_edges(rt, alloc, &image, order.options, &edges, world, parker, out);
+    let (ran, printer) = run_edges(
+        rt,
+        alloc,
+        &image,
+        order.options,
+        &edges,
+        world,
+        parker,
+        printer,
+    );
     match ran {
         Ok(report) => {
             let done = end_of(&image, &report);
             // The memory isn't freed, since the program ends soon.
             forget(report);
             forget(image);
-            (Ok(done), out)
+            (Ok(done), printer)
         }
         Err(fault) => {
             forget(image);
-            (Err(fault), out)
+            (Err(fault), printer)
         }
     }
 }
 
-/// Builds the targets of a manifest, and prints the status lines while commands run. Returns how the build ended, and
-/// the sink. Unpark `parker` to print the lines that are ready.
+/// Builds the targets of a manifest, and prints the marks of its runs by a format while commands run. Returns how the
+/// build ended, and the printer. Unpark `parker` to print the marks that are ready.
 ///
 /// The manifest is read and compiled. If an edge makes the manifest, that edge runs first, with all edges that it
 /// needs. Each time that its command ran, the manifest is read again, at most 100 times (the Ninja manual, "The build
@@ -324,37 +347,44 @@ pub(crate) fn build_targets<
 /// - The manifest, or a file that it includes, is missing or refused, or it has no graph or no image: as in
 ///   `do_compile`.
 /// - 132, with the name: no edge makes a target. The first such target is named. The manifest is up to date then.
-/// - 110, 120 to 122: lanes stopped early. The lines of the work until then were printed, or a prefix of them.
-/// - 133 ` -`: a write of the lines failed.
+/// - 110, 120 to 122: lanes stopped early. The work until then was shown, perhaps not to its end.
+/// - 133 ` -`: a write of the text failed.
 /// - 111, 131 or the number of a lower layer: memory ran out.
-pub fn do_build<S: Source, W: World + Send + Sync, O: Sink + Send + Drop, R: Threads + Wait + Sync>(
+pub fn do_build<
+    S: Source,
+    W: World + Send + Sync,
+    F: Format + Send + Drop,
+    O: Sink + Send + Drop,
+    R: Threads + Wait + Sync,
+>(
     rt: &R,
     alloc: Global,
     source: &mut S,
     order: &Order<'_>,
     world: &W,
     parker: &Parker,
-    out: O,
-) -> (Result<Done, PlanFault>, O)
+    printer: Printer<F, O>,
+) -> (Result<Done, PlanFault>, Printer<F, O>)
     ensures done { let a = defined.asked order.now.manifest.now order.now.options (map (λ n. n.now) order.now.targets.now) in
-        IfOk result.0 (λ d. Builds (S.gives source.old) W.allows a (O.failures out, O.taken out) (O.failures result.1, O.taken result.1) d) }
+        IfOk result.0 (λ d. Builds (S.gives source.old) (by_format F.kept F.tells (F.kept printer.format)) W.allows a (O.failures printer.out, O.taken printer.out) (O.failures result.1.out, O.taken result.1.out) d) }
     ensures read { OnOk result.0 (S.failures source.new ≡ S.failures source.old) }
     ensures refused { let a = defined.asked order.now.manifest.now order.now.options (map (λ n. n.now) order.now.targets.now) in
         let missing = IsMissing (S.gives source.old) (S.fails source.old) (S.failures source.old) (S.failures source.new) in
-        IfErr result.0 (λ fault. Stops (S.gives source.old) missing W.allows a (O.failures out, O.taken out) (O.failures result.1, O.taken result.1) fault) }
+        IfErr result.0 (λ fault. Stops (S.gives source.old) missing (by_format F.kept F.tells (F.kept printer.format)) W.allows a (O.failures printer.out, O.taken printer.out) (O.failures result.1.out, O.taken result.1.out) fault) }
+    ensures format { F.kept result.1.format ≡ F.kept printer.format }
 {
-    let mut out = out;
+    let mut printer = printer;
     for _ in 0..MOST_ROUNDS {
-        let (round, left) = update_manifest(rt, alloc, source, order, world, parker, out);
-        out = left;
+        let (round, left) = update_manifest(rt, alloc, source, order, world, parker, printer);
+        printer = left;
         match round {
             Ok(Round::Remade) => {}
-            Ok(Round::Failed) => return (Ok(Done::ManifestFails), out),
+            Ok(Round::Failed) => return (Ok(Done::ManifestFails), printer),
             Ok(Round::UpToDate(image)) => {
-                return build_targets(rt, alloc, image, order, world, parker, out);
+                return build_targets(rt, alloc, image, order, world, parker, printer);
             }
-            Err(fault) => return (Err(fault), out),
+            Err(fault) => return (Err(fault), printer),
         }
     }
-    (Ok(Done::NeverSettles), out)
+    (Ok(Done::NeverSettles), printer)
 }

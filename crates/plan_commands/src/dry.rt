@@ -4,12 +4,15 @@ ghost use Rattle.std.specs.Prelude.{◌≡◌, IfErr, IfOk, OnOk, map};
 ghost use Rattle.plan_scope.specs.Loading.{IsMissing};
 ghost use Rattle.plan_commands.specs.Building as defined;
 ghost use Rattle.plan_commands.specs.Dry.{DryStops, Previews, dry_rule};
+ghost use Rattle.plan_commands.specs.Showing.{by_format};
 
 use crate::building::{Done, Order, Round, build_targets, update_manifest};
 use crate::fault::PlanFault;
+use crate::printed_runs::Printer;
 use plan_lanes::{Permit, World};
 use plan_machine::Reply;
 use plan_scope::Source;
+use plan_status::Format;
 use plan_text::{RowList, Sink};
 use plan_verify::PathList;
 use std::alloc::{AllocError, Global};
@@ -70,7 +73,7 @@ impl<W: World> World for DryWorld<'_, W> {
     }
 }
 
-/// Prints the status lines of a build of a manifest's targets, but runs no command and keeps no entry. Asks the world
+/// Prints the marks of a build of a manifest's targets by a format, but runs no command and keeps no entry. Asks the world
 /// only for files and the record. Each command counts as one that ended with status 0, and leaves its outputs as they
 /// are. So an edge that uses outputs of a `restat` edge is listed only if it is out of date already.
 ///
@@ -82,6 +85,7 @@ impl<W: World> World for DryWorld<'_, W> {
 pub fn do_dry_build<
     S: Source,
     W: World + Send + Sync,
+    F: Format + Send + Drop,
     O: Sink + Send + Drop,
     R: Threads + Wait + Sync,
 >(
@@ -91,21 +95,22 @@ pub fn do_dry_build<
     order: &Order<'_>,
     world: &W,
     parker: &Parker,
-    out: O,
-) -> (Result<Done, PlanFault>, O)
+    printer: Printer<F, O>,
+) -> (Result<Done, PlanFault>, Printer<F, O>)
     ensures done { let a = defined.asked order.now.manifest.now order.now.options (map (λ n. n.now) order.now.targets.now) in
-        IfOk result.0 (λ d. Previews (S.gives source.old) (dry_rule W.allows) a (O.failures out, O.taken out) (O.failures result.1, O.taken result.1) d) }
+        IfOk result.0 (λ d. Previews (S.gives source.old) (by_format F.kept F.tells (F.kept printer.format)) (dry_rule W.allows) a (O.failures printer.out, O.taken printer.out) (O.failures result.1.out, O.taken result.1.out) d) }
     ensures read { OnOk result.0 (S.failures source.new ≡ S.failures source.old) }
     ensures refused { let a = defined.asked order.now.manifest.now order.now.options (map (λ n. n.now) order.now.targets.now) in
         let missing = IsMissing (S.gives source.old) (S.fails source.old) (S.failures source.old) (S.failures source.new) in
-        IfErr result.0 (λ fault. DryStops (S.gives source.old) missing (dry_rule W.allows) a (O.failures out, O.taken out) (O.failures result.1, O.taken result.1) fault) }
+        IfErr result.0 (λ fault. DryStops (S.gives source.old) missing (by_format F.kept F.tells (F.kept printer.format)) (dry_rule W.allows) a (O.failures printer.out, O.taken printer.out) (O.failures result.1.out, O.taken result.1.out) fault) }
+    ensures format { F.kept result.1.format ≡ F.kept printer.format }
 {
     let dry = DryWorld { world };
-    let (round, out) = update_manifest(rt, alloc, source, order, &dry, parker, out);
+    let (round, printer) = update_manifest(rt, alloc, source, order, &dry, parker, printer);
     match round {
-        Ok(Round::Remade) => (Ok(Done::Built), out),
-        Ok(Round::Failed) => (Ok(Done::ManifestFails), out),
-        Ok(Round::UpToDate(image)) => build_targets(rt, alloc, image, order, &dry, parker, out),
-        Err(fault) => (Err(fault), out),
+        Ok(Round::Remade) => (Ok(Done::Built), printer),
+        Ok(Round::Failed) => (Ok(Done::ManifestFails), printer),
+        Ok(Round::UpToDate(image)) => build_targets(rt, alloc, image, order, &dry, parker, printer),
+        Err(fault) => (Err(fault), printer),
     }
 }

@@ -3,7 +3,8 @@
 //! - `do_commands`, `do_compile`, `do_verify`, `do_dump`, `do_replay`, `do_compare`: read from sources, write to a
 //!   sink, and return the exit status.
 //! - `do_run`: runs an image in a world.
-//! - `do_build`: brings a manifest up to date, and builds its targets in a world. `do_dry_build`: runs no commands.
+//! - `do_build`: brings a manifest up to date, and builds its targets in a world. `do_dry_build`: runs no commands. Both
+//!   show their runs through a `Printer`: a format, and the sink for its texts.
 //! - `build_is_right`, `idle_builds_run_nothing`: laws about the edges of a manifest when its build ends.
 //! - `PlanFault`: the reason why a command is refused, with the line that is printed. `printed_fault` and
 //!   `printed_graph_fault` convert faults of a manifest.
@@ -48,6 +49,7 @@ pub use files::{FileSource, IMAGE_BYTES, MANIFEST_BYTES, NewFile, TRACE_BYTES};
 pub use graph_fault::printed_graph_fault;
 pub use images::do_dump;
 pub use laws::{build_is_right, idle_builds_run_nothing};
+pub use printed_runs::Printer;
 pub use replaying::do_replay;
 pub use running::{Build, do_run};
 pub use screen::{Screen, Standard};

@@ -7,20 +7,20 @@ ghost use Rattle.plan_machine.specs.Kept.{IsStateOf};
 ghost use Rattle.plan_machine.specs.State.{has_ended};
 ghost use Rattle.plan_status.specs.Printing.{Prints};
 ghost use Rattle.plan_lanes.specs.Faults as faults;
-ghost use Rattle.plan_lanes.specs.Reports.{IsRunOf};
+ghost use Rattle.plan_lanes.specs.Reports.{IsKeptBy, IsRunOf};
 ghost use Rattle.plan_commands.specs.Faults.{no_memory};
 ghost use Rattle.plan_commands.specs.Images.{SinkState};
 ghost use Rattle.plan_commands.specs.Running as defined;
 ghost use Rattle.plan_commands.specs.Running.{FailsToRun, IsKeptFor, IsNotBegun, IsOpened, Runs, Tells, TellsAll, Traces, WritesTrace, lines_in};
 
 use crate::fault::{PlanFault, file_fault, lost_output, no_memory};
-use crate::printed_runs::{RunResult, report_of, run_with_lines};
+use crate::printed_runs::{Printer, RunResult, report_of, run_and_show};
 use crate::targets::targets_of;
 use crate::verdicts::verified_by;
 use plan_lanes::{Journaled, LaneFault, Report, World};
 use plan_machine::Options;
 use plan_scope::Source;
-use plan_status::{PrintFault, all_done};
+use plan_status::{PrintFault, StatusLines, all_done, lines_are_printed};
 use plan_text::{Items, Sink};
 use plan_trace::write_run;
 use plan_verify::Verified;
@@ -203,6 +203,34 @@ fn finish_run<T: Sink>(
             Err(printed_lane_fault(alloc, fault))
         }
     }
+}
+
+/// Runs an image, and prints its status lines while lanes work.
+fn run_with_lines<W: World + Send + Sync, O: Sink + Send + Drop, R: Threads + Wait + Sync>(
+    rt: &R,
+    alloc: Global,
+    image: &Verified,
+    options: Options,
+    targets: &[u32],
+    world: &W,
+    parker: &Parker,
+    out: O,
+) -> (RunResult, O)
+    ensures run { IfOk result.0.ran (λ r. IsRunOf W.allows (record { parts = image.now; limits = options; targets = targets.now }) r) }
+    ensures ended { IfOk result.0.ran (λ r. has_ended r.state.run_state.now ≡ true) }
+    ensures fault { IfErr result.0.ran (λ f. faults.FaultReports W.allows (record { parts = image.now; limits = options; targets = targets.now }) f) }
+    ensures printed { IfSome (defined.report_in result.0.ran) (λ r. Prints (lines_in image.now r) (result_err result.0.printed) (O.failures out, O.taken out) (O.failures result.1, O.taken result.1)) }
+    ensures silent { IfNone (defined.report_in result.0.ran) (result.1 ≡ out) }
+    ensures kept { IfSome (defined.report_in result.0.ran) (λ r. IsKeptBy W.keeps r) }
+{
+    lines_are_printed();
+    let format = StatusLines::new();
+    let printer = Printer { format, out };
+    let (run_result, printer) = run_and_show(
+        rt, alloc, image, options, targets, world, parker, printer,
+    );
+    let Printer { out, .. } = printer;
+    (run_result, out)
 }
 
 /// Runs an image, and prints its lines while lanes work. Keeps the journal if the run is to have a trace.

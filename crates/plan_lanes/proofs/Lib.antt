@@ -12,5 +12,6 @@ mod ProceedLemmas
 mod BatchLemmas
 mod RunningLemmas
 mod ReportLemmas
+mod TotalLemmas
 mod SharedRunLemmas
 mod Rows

@@ -5,8 +5,6 @@ use Rattle.plan_image.specs.declared.image.Parts.{Parts}
 use Rattle.plan_machine.specs.declared.event.Event.{Event}
 use Rattle.plan_machine.specs.declared.event.mark.Mark.{Mark}
 use Rattle.plan_machine.specs.declared.run.refused.Refused.{Refused}
-use Rattle.plan_machine.specs.State.{State}
-use Rattle.plan_machine.specs.Total.{total_of}
 use Rattle.plan_status.specs.declared.feed.Feed.{Feed}
 use Rattle.plan_status.specs.declared.line_progress.LineProgress.{LineProgress}
 use Rattle.plan_status.specs.Live.{FeedsJoin, IsFed, IsLineProgress, SameFeed, LineProgressStays}
@@ -21,18 +19,17 @@ use Rattle.plan_lanes.specs.Progress.{Opened, Progress}
 use Rattle.plan_lanes.specs.Reports.{IsRunOf}
 use Rattle.plan_lanes.specs.LocalRuns.{AppliesAll, GoesOn}
 use Rattle.plan_lanes.specs.ObservableMarks.{observable}
-use Rattle.plan_lanes.proofs.LocalRunLemmas.{goes_none, goes_one, total_runs}
+use Rattle.plan_lanes.proofs.LocalRunLemmas.{goes_none, goes_one}
 
 -- ---- events more
 
 shows_after : LineProgressStays → (named : Option Feed) (old new : Progress) (events : List Event) (told : List Mark) (s : LineProgress) → AppliesAll old new events told → Shows named old s → Shows named new s
 shows_after stays named old new events told s h shows =
     let parts : old.opened.parts ≡ new.opened.parts = ap (λ (o : Opened). o.parts) (sym h.opened) in
-    let on : IsLineProgress old.opened.parts (old.marks ++ observable told) s = stays old.opened.parts old.marks (observable told) s shows.lines in
+    let on : IsLineProgress old.opened.parts (old.marks ++ observable told) s = stays old.opened.parts old.marks (observable told) s shows.marks in
     let marked : IsLineProgress old.opened.parts new.marks s = subst (λ (ms : List Mark). IsLineProgress old.opened.parts ms s) (sym h.marks) on in
     record {
-      lines = subst (λ (p : Parts). IsLineProgress p new.marks s) parts marked;
-      total = shows.total ∙ (sym (total_runs old.opened.parts old.opened.limits old.state new.state events told h.run) ∙ ap (λ (p : Parts). total_of p new.state) parts);
+      marks = subst (λ (p : Parts). IsLineProgress p new.marks s) parts marked;
       feed = shows.feed;
     }
 
@@ -58,8 +55,8 @@ named_on joins None f g is same = tt
 named_on joins (Some named) f g is same = joins named f g is same
 
 -- nothing is shown yet
-pub shared_run_begins : (run : Opened) (b : Progress) (s : LineProgress) → b.opened ≡ run → IsLineProgress b.opened.parts b.marks s → s.total ≡ total_of b.opened.parts b.state → IsSharedRun run (Some s.feed) b (Some s)
-shared_run_begins run b s is lines total = record { run = is; there = refl; shows = record { lines = lines; total = total; feed = same_self s.feed } }
+pub shared_run_begins : (run : Opened) (b : Progress) (s : LineProgress) → b.opened ≡ run → IsLineProgress b.opened.parts b.marks s → IsSharedRun run (Some s.feed) b (Some s)
+shared_run_begins run b s is marks = record { run = is; there = refl; shows = record { marks = marks; feed = same_self s.feed } }
 
 pub shared_run_silent : (run : Opened) (b : Progress) → b.opened ≡ run → IsSharedRun run None b None
 shared_run_silent run b is = record { run = is; there = refl; shows = tt }
@@ -74,20 +71,16 @@ fault_reports rule o r (NoMemory s) is run = let same : s ≡ r = cc in subst (I
 fault_reports rule o r (NoLane s) is run = let same : s ≡ r = cc in subst (IsRunOf rule o) (sym same) run
 fault_reports rule o r (OtherBoard s) is run = let same : s ≡ r = cc in subst (IsRunOf rule o) (sym same) run
 
-pub fault_is_fed : (o : Opened) (r : Report) (f : LaneFault) (feed : Feed) → report_of f ≡ Some r → ReportIsFed o r feed → FaultIsFed o f feed
-fault_is_fed o r (Opening refused) feed is fed = absurd cc
-fault_is_fed o r (NotEnabled s) feed is fed = let same : s ≡ r = cc in subst (λ (x : Report). ReportIsFed o x feed) (sym same) fed
-fault_is_fed o r (NoMemory s) feed is fed = let same : s ≡ r = cc in subst (λ (x : Report). ReportIsFed o x feed) (sym same) fed
-fault_is_fed o r (NoLane s) feed is fed = let same : s ≡ r = cc in subst (λ (x : Report). ReportIsFed o x feed) (sym same) fed
-fault_is_fed o r (OtherBoard s) feed is fed = let same : s ≡ r = cc in subst (λ (x : Report). ReportIsFed o x feed) (sym same) fed
+pub fault_is_fed : (r : Report) (f : LaneFault) (feed : Feed) → report_of f ≡ Some r → ReportIsFed r feed → FaultIsFed f feed
+fault_is_fed r (Opening refused) feed is fed = absurd cc
+fault_is_fed r (NotEnabled s) feed is fed = let same : s ≡ r = cc in subst (λ (x : Report). ReportIsFed x feed) (sym same) fed
+fault_is_fed r (NoMemory s) feed is fed = let same : s ≡ r = cc in subst (λ (x : Report). ReportIsFed x feed) (sym same) fed
+fault_is_fed r (NoLane s) feed is fed = let same : s ≡ r = cc in subst (λ (x : Report). ReportIsFed x feed) (sym same) fed
+fault_is_fed r (OtherBoard s) feed is fed = let same : s ≡ r = cc in subst (λ (x : Report). ReportIsFed x feed) (sym same) fed
 
--- what showed a run has the lines of its report
-pub left_of : (run : Opened) (named : Option Feed) (b : Progress) (r : Report) (s : LineProgress) → b.opened ≡ run → r.state.run_state.now ≡ b.state → r.marks.items ≡ b.marks → Shows named b s → IsLeft run named r s
-left_of run named b r s is state marks shows = record {
-  fed =
-      subst (λ (o : Opened). ReportIsFed o r s.feed) is
-      (subst (λ (t : State). IsFed b.opened.parts (total_of b.opened.parts t) r.marks.items s.feed) (sym state)
-      (subst (λ (ms : List Mark). IsFed b.opened.parts (total_of b.opened.parts b.state) ms s.feed) (sym marks)
-      (subst (λ (n : ℕ). IsFed b.opened.parts n b.marks s.feed) shows.total shows.lines.fed)));
+-- what showed a run has the marks of its report
+pub left_of : (named : Option Feed) (b : Progress) (r : Report) (s : LineProgress) → r.marks.items ≡ b.marks → Shows named b s → IsLeft named r s
+left_of named b r s marks shows = record {
+  fed = subst (λ (ms : List Mark). IsFed ms s.feed) (sym marks) shows.marks.fed;
   feed = shows.feed;
 }

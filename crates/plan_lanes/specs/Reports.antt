@@ -1,5 +1,5 @@
 -- What a report says.
-use Rattle.std.specs.Prelude.{◌≡◌, ◌≢◌, ◌≤◌, ◌+◌, Bool, List, None, Some, false, if◌then◌else◌, length}
+use Rattle.std.specs.Prelude.{◌≡◌, ◌≢◌, ◌≤◌, ◌+◌, ℕ, Bool, List, None, Some, false, if◌then◌else◌, length}
 use Rattle.plan_verify.specs.Budget.{image_budget}
 use Rattle.plan_verify.specs.Turn.{Flaw}
 use Rattle.plan_machine.specs.declared.event.Event.{Event}
@@ -10,6 +10,7 @@ use Rattle.plan_machine.specs.Kept.{IsStateOf}
 use Rattle.plan_machine.specs.Orderly.{IsOrderly}
 use Rattle.plan_machine.specs.Runs.{Reached}
 use Rattle.plan_machine.specs.Step.{Wrong, step}
+use Rattle.plan_machine.specs.Total.{total_of}
 use Rattle.plan_machine.specs.Wanted.{any_outside}
 use Rattle.plan_lanes.specs.declared.board.Report.{Report}
 use Rattle.plan_lanes.specs.Journals.{Rule, IsAllowed}
@@ -37,3 +38,7 @@ pub record IsRunOf (rule : Rule) (o : Opened) (r : Report) : Type 0 where
 -- The report has the events of its journal to be read exactly if journals are kept.
 abbrev pub IsKeptBy : Bool → Report → Type 0
 IsKeptBy keeps r = r.kept ≡ (if keeps then Some r.journal else None)
+
+-- Each run of this image, with these options and targets, has so many wanted edges with a command, in each state.
+abbrev pub IsTotalOf : Rule → Opened → ℕ → Type 0
+IsTotalOf rule o n = (r : Report) → IsRunOf rule o r → n ≡ total_of o.parts r.state.run_state.now

@@ -1,6 +1,5 @@
 -- What lanes share under their lock.
 use Rattle.std.specs.Prelude.{◌≡◌, Option, Some, None, IfSome, is_some}
-use Rattle.plan_machine.specs.Total.{total_of}
 use Rattle.plan_status.specs.declared.feed.Feed.{Feed}
 use Rattle.plan_status.specs.declared.line_progress.LineProgress.{LineProgress}
 use Rattle.plan_status.specs.Live.{IsFed, IsLineProgress, IsUnused, SameFeed}
@@ -15,10 +14,9 @@ abbrev pub IsNamed : Option Feed → Feed → Type 0
 IsNamed (Some named) f = SameFeed named f
 IsNamed None f = Unit {0}
 
--- the lines of a run are shown through the feed that is named, as far as that went
+-- the marks of a run are put into the feed that is named, as far as that went
 pub record Shows (named : Option Feed) (b : Progress) (s : LineProgress) : Type 0 where
-  pub lines : IsLineProgress b.opened.parts b.marks s
-  pub total : s.total ≡ total_of b.opened.parts b.state
+  pub marks : IsLineProgress b.opened.parts b.marks s
   pub feed : IsNamed named s.feed
 
 -- what a contract sees of it: the run so far, and why lanes stop
@@ -26,13 +24,13 @@ pub record Shared : Type 0 where
   pub run : Progress
   pub stopped : Stopped
 
--- the board is of the run that is named; its lines are shown if a feed is named
+-- the board is of the run that is named; its marks are shown if a feed is named
 pub record IsSharedRun (o : Opened) (named : Option Feed) (b : Progress) (line_progress : Option LineProgress) : Type 0 where
   pub run : b.opened ≡ o
   pub there : is_some line_progress ≡ is_some named
   pub shows : IfSome line_progress (λ s. Shows named b s)
 
--- a run that is open, and the feed that is to get its lines
+-- a run that is open, and the feed that is to get its marks
 pub record Ready : Type 0 where
   pub opened : Opened
   pub feed : Feed
@@ -42,19 +40,19 @@ ready o f = record { opened = o; feed = f }
 
 -- ---- what is left of them
 
--- the feed has the lines of a report, as far as that went
-abbrev pub ReportIsFed : Opened → Report → Feed → Type 0
-ReportIsFed o r f = IsFed o.parts (total_of o.parts r.state.run_state.now) r.marks.items f
+-- the feed has the marks of a report, as far as that went
+abbrev pub ReportIsFed : Report → Feed → Type 0
+ReportIsFed r f = IsFed r.marks.items f
 
 -- or nothing, if no run was opened
-abbrev pub FaultIsFed : Opened → LaneFault → Feed → Type 0
-FaultIsFed o (Opening refused) f = IsUnused f
-FaultIsFed o (NotEnabled r) f = ReportIsFed o r f
-FaultIsFed o (NoMemory r) f = ReportIsFed o r f
-FaultIsFed o (NoLane r) f = ReportIsFed o r f
-FaultIsFed o (OtherBoard r) f = ReportIsFed o r f
+abbrev pub FaultIsFed : LaneFault → Feed → Type 0
+FaultIsFed (Opening refused) f = IsUnused f
+FaultIsFed (NotEnabled r) f = ReportIsFed r f
+FaultIsFed (NoMemory r) f = ReportIsFed r f
+FaultIsFed (NoLane r) f = ReportIsFed r f
+FaultIsFed (OtherBoard r) f = ReportIsFed r f
 
 -- and what showed them has it
-pub record IsLeft (o : Opened) (named : Option Feed) (r : Report) (s : LineProgress) : Type 0 where
-  pub fed : ReportIsFed o r s.feed
+pub record IsLeft (named : Option Feed) (r : Report) (s : LineProgress) : Type 0 where
+  pub fed : ReportIsFed r s.feed
   pub feed : IsNamed named s.feed

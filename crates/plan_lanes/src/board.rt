@@ -18,7 +18,7 @@ ghost use Rattle.plan_lanes.specs.Journals.{IsLastOf};
 ghost use Rattle.plan_lanes.specs.Proceeds.{Proceeds};
 ghost use Rattle.plan_lanes.specs.Progress.{Opened, run_state_of};
 ghost use Rattle.plan_lanes.specs.Questions.{is_run, shown};
-ghost use Rattle.plan_lanes.specs.Reports.{IsKeptBy, IsRunOf};
+ghost use Rattle.plan_lanes.specs.Reports.{IsKeptBy, IsRunOf, IsTotalOf};
 ghost use Rattle.plan_lanes.specs.LocalRuns.{GoesOn};
 
 pub(crate) mod local_runs;
@@ -197,7 +197,8 @@ impl<'v, W: World> Board<'v, W> {
 
     /// Returns the number of wanted edges that have a command.
     pub fn total(&self) -> u64
-        ensures { result ≡ total_of self.now.opened.parts self.now.state }
+        ensures now { result ≡ total_of self.now.opened.parts self.now.state }
+        ensures all { IsTotalOf W.allows self.now.opened result }
     {
         self.state.total()
     }

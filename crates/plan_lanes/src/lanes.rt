@@ -101,8 +101,8 @@ pub(crate) fn to_result(report: Report, stopped: Stopped) -> Result<Report, Lane
     Ok(report)
 }
 
-/// Runs what a board begins, by `count` lanes, and shows its lines if `line_progress` is there. Returns the report of the
-/// run, why its lanes stopped, and what showed the lines.
+/// Runs what a board begins, by `count` lanes, and shows its marks if `line_progress` is there. Returns the report of the
+/// run, why its lanes stopped, and what showed the marks.
 pub(crate) fn run_named<
     J: RunBrand + Send + Sync,
     W: World + Send + Sync,
@@ -119,7 +119,7 @@ pub(crate) fn run_named<
     ensures run { IsRunOf W.allows J.run result.0 }
     ensures kept { IsKeptBy W.keeps result.0 }
     ensures there { is_some result.2 ≡ is_some J.feed }
-    ensures left { IfSome result.2 (λ s. IsLeft J.run J.feed result.0 s) }
+    ensures left { IfSome result.2 (λ s. IsLeft J.feed result.0 s) }
 {
     let shared: Mutex<SharedRun<'_, W, J>> = Mutex::new(SharedRun::new(board, line_progress));
     let moved = Condvar::new();
@@ -203,7 +203,7 @@ fn ask_and_lock<'a, 'v, J: RunBrand, W: World, R: Wait>(
 }
 
 /// Asks the world the questions in the batch, applies the replies, adds the next questions until the batch is full, and
-/// shows the new status lines. Sleeps while the batch is empty and there is no question to add.
+/// shows the new marks. Sleeps while the batch is empty and there is no question to add.
 fn visit<J: RunBrand, W: World, R: Wait>(
     rt: &R,
     shared: &Mutex<SharedRun<'_, W, J>>,
@@ -270,7 +270,7 @@ fn ask_out<J: RunBrand, W: World, R: Wait>(
     false
 }
 
-/// Applies the replies in the batch, and shows the new status lines. Adds no question except the next one of a sweep.
+/// Applies the replies in the batch, and shows the new marks. Adds no question except the next one of a sweep.
 /// Returns false if lanes stop.
 fn apply_replies<J: RunBrand, W: World, R: Wait>(
     rt: &R,

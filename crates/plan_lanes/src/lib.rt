@@ -5,7 +5,7 @@
 //! - `Board`: a run and its journal, changed by one event at a time: `advance` does what needs no reply, `answer` applies
 //!   a reply. `Advance`: the result of an advance. `Permit`: the right to run one command, which only a board creates.
 //!   `Report`: the state, journal and marks at the end of a run. `lines_are_told`: a law about the lines of its marks.
-//! - `run_lanes`: a whole run by threads. `run_lanes_shown`: a run whose status lines go into a feed meanwhile.
+//! - `run_lanes`: a whole run by threads. `run_lanes_shown`: a run whose marks go into a feed meanwhile.
 //!   `PrintedRun` makes such a run in two steps, opening and running. `LaneFault`: why a run has no end.
 //!
 //! docs/rules/lanes.md says how lanes run, and what is promised.

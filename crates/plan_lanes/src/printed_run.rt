@@ -1,4 +1,4 @@
-//! Runs whose lines are shown while lanes work.
+//! Runs whose marks are shown while lanes work.
 
 ghost use Rattle.std.specs.Prelude.{◌≡◌, IfErr, IfOk, IfSome, is_some, true};
 ghost use Rattle.plan_machine.specs.State.{has_ended};
@@ -20,7 +20,7 @@ use std::marker::{Brand, Model};
 use std::sync::Wait;
 use std::thread::Threads;
 
-/// A run that is open and in which nothing was done yet, with what is to show its lines. A contract sees what it was
+/// A run that is open and in which nothing was done yet, with what is to show its marks. A contract sees what it was
 /// opened with, and the feed.
 #[derive(Drop)]
 pub struct PrintedRun<'v, W: World> {
@@ -47,14 +47,14 @@ impl<'v, W: World> PrintedRun<'v, W> {
     ghost use Rattle.plan_status.specs.Live.{IsUnused, SameFeed};
     ghost use Rattle.plan_lanes.specs.SharedRuns.{ReportIsFed, ready};
     ghost use Rattle.plan_lanes.specs.Faults.{FaultReports, report_of};
-    ghost use Rattle.plan_lanes.specs.Reports.{IsKeptBy, IsRunOf};
+    ghost use Rattle.plan_lanes.specs.Reports.{IsKeptBy, IsRunOf, IsTotalOf};
     ghost use Rattle.plan_lanes.specs.declared.fault.LaneFault.TheVariants.{Opening};
 
-    /// Opens a run of an image whose lines are to go into a feed. If there are no targets, the run is for the image's
+    /// Opens a run of an image whose marks are to go into a feed. If there are no targets, the run is for the image's
     /// defaults. The world isn't asked.
     ///
     /// # Errors
-    /// As for `Board::open`, and `Memory` if there is no memory for what shows the lines. The feed is returned.
+    /// As for `Board::open`, and `Memory` if there is no memory for what shows the marks. The feed is returned.
     pub fn open(
         alloc: Global,
         image: &'v Verified,
@@ -71,7 +71,7 @@ impl<'v, W: World> PrintedRun<'v, W> {
             Ok(board) => board,
             Err(refused) => return Err((refused, feed)),
         };
-        match LineProgress::new(alloc, image, board.total(), feed) {
+        match LineProgress::new(alloc, image, feed) {
             Ok(line_progress) => Ok(PrintedRun {
                 alloc,
                 jobs: options.jobs(),
@@ -80,6 +80,13 @@ impl<'v, W: World> PrintedRun<'v, W> {
             }),
             Err(feed) => Err((Refused::Memory, feed)),
         }
+    }
+
+    /// Returns the number of wanted edges that have a command.
+    pub fn total(&self) -> u64
+        ensures { IsTotalOf W.allows self.now.opened result }
+    {
+        self.board.total()
     }
 }
 
@@ -91,9 +98,8 @@ impl<W: World + Send + Sync> PrintedRun<'_, W> {
     ghost use Rattle.plan_lanes.specs.Faults.{FaultReports, report_of};
     ghost use Rattle.plan_lanes.specs.Reports.{IsKeptBy, IsRunOf};
 
-    /// Runs it like `run_lanes`, and puts the status line of each event into the feed before its lane releases the
-    /// lock, or as soon as there is room for it and no console command runs. Returns the feed too, whose lines are to
-    /// be settled.
+    /// Runs it like `run_lanes`, and puts each mark of the report into the feed before the lane of its event releases
+    /// the lock, or as soon as there is room for it and no console command runs. Returns the feed too, to be settled.
     ///
     /// # Errors
     /// The run so far, and why it hasn't ended.
@@ -109,8 +115,8 @@ impl<W: World + Send + Sync> PrintedRun<'_, W> {
         ensures kept { IfOk result.0 (λ r. IsKeptBy W.keeps r) }
         ensures kept_so_far { IfErr result.0 (λ f. IfSome (report_of f) (λ r. IsKeptBy W.keeps r)) }
         ensures same { SameFeed self.entry.feed result.1 }
-        ensures fed { IfOk result.0 (λ r. ReportIsFed self.entry.opened r result.1) }
-        ensures fed_so_far { IfErr result.0 (λ f. IfSome (report_of f) (λ r. ReportIsFed self.entry.opened r result.1)) }
+        ensures fed { IfOk result.0 (λ r. ReportIsFed r result.1) }
+        ensures fed_so_far { IfErr result.0 (λ f. IfSome (report_of f) (λ r. ReportIsFed r result.1)) }
     {
         let PrintedRun {
             alloc,
@@ -133,13 +139,12 @@ impl<W: World + Send + Sync> PrintedRun<'_, W> {
     }
 }
 
-/// Runs an image like `run_lanes`, and puts the status line of each event into a feed before its lane releases the
-/// lock, or as soon as there is room for it and no console command runs. The lines in the feed are those of the first
-/// marks of the report. The feed is returned in any case, to be settled. The call never waits for the reader of the
-/// feed.
+/// Runs an image like `run_lanes`, and puts each mark of the report into a feed before the lane of its event releases
+/// the lock, or as soon as there is room for it and no console command runs. The marks in the feed are the first ones of
+/// the report. The feed is returned in any case, to be settled. The call never waits for the reader of the feed.
 ///
 /// # Errors
-/// As for `run_lanes`, and `Opening` with `Memory` if there is no memory for what shows the lines.
+/// As for `run_lanes`, and `Opening` with `Memory` if there is no memory for what shows the marks.
 pub fn run_lanes_shown<W: World + Send + Sync, R: Threads + Wait + Sync>(
     rt: &R,
     alloc: Global,
@@ -156,8 +161,8 @@ pub fn run_lanes_shown<W: World + Send + Sync, R: Threads + Wait + Sync>(
     ensures kept { IfOk result.0 (λ r. IsKeptBy W.keeps r) }
     ensures kept_so_far { IfErr result.0 (λ f. IfSome (report_of f) (λ r. IsKeptBy W.keeps r)) }
     ensures same { SameFeed feed result.1 }
-    ensures fed { IfOk result.0 (λ r. ReportIsFed (record { parts = image.now; limits = options; targets = targets.now }) r result.1) }
-    ensures fed_so_far { IfErr result.0 (λ f. FaultIsFed (record { parts = image.now; limits = options; targets = targets.now }) f result.1) }
+    ensures fed { IfOk result.0 (λ r. ReportIsFed r result.1) }
+    ensures fed_so_far { IfErr result.0 (λ f. FaultIsFed f result.1) }
 {
     let run: PrintedRun<'_, W> = match PrintedRun::open(alloc, image, options, targets, feed) {
         Ok(run) => run,

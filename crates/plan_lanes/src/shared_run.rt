@@ -19,7 +19,7 @@ use plan_machine::{Refused, Reply};
 use plan_status::{LineProgress, ends_stay, marks_may_come};
 use std::marker::{Brand, Model, PhantomData};
 
-/// Names a run: what the run under a lock was opened with, and the feed that gets its lines, if there is one. Each call
+/// Names a run: what the run under a lock was opened with, and the feed that gets its marks, if there is one. Each call
 /// of `run_lanes` picks the names.
 pub trait RunBrand {
     ghost use Rattle.std.specs.Prelude.{Option};
@@ -52,7 +52,7 @@ pub enum Stopped {
     NoLane,
 }
 
-/// What lanes share under the lock: the board of the run that `J` names, what shows its lines, why lanes stop, and how
+/// What lanes share under the lock: the board of the run that `J` names, what shows its marks, why lanes stop, and how
 /// many of them sleep. A contract sees the run so far, and why lanes stop.
 #[derive(Drop)]
 pub struct SharedRun<'v, W: World, J: RunBrand> {
@@ -87,7 +87,7 @@ impl<'v, W: World, J: RunBrand> SharedRun<'v, W, J> {
         }
     }
 
-    /// Shows the lines of the marks that may be reported, as far as there is room.
+    /// Shows the marks that may be reported, as far as there is room.
     pub fn show(&mut self)
         ensures { self.new ≡ self.old }
     {
@@ -224,7 +224,7 @@ impl<'v, W: World, J: RunBrand> SharedRun<'v, W, J> {
         self.waiting = self.waiting.saturating_sub(1);
     }
 
-    /// Returns the board, what shows its lines, and why lanes stopped.
+    /// Returns the board, what shows its marks, and why lanes stopped.
     pub fn into_parts(self) -> (Board<'v, W>, Option<LineProgress>, Stopped)
         ensures { IsSharedRun J.run J.feed result.0 result.1 }
     {

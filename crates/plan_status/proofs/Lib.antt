@@ -4,3 +4,4 @@ pub mod OutcomesLemmas
 pub mod TruesLemmas
 pub mod ConsolesLemmas
 pub mod LiveLemmas
+pub mod FormatLemmas

@@ -6,7 +6,7 @@ use Rattle.plan_machine.specs.declared.event.mark.Mark.{Mark}
 use Rattle.plan_status.specs.Lines.{ends, tells_end, line_of, lines_behind, lines_of}
 
 -- one mark more is counted
-ends_on : (p : Parts) (xs : List Mark) (x : Mark) → ends p (xs ++ x ∷ []) ≡ (if tells_end p x then 1 else 0) + ends p xs
+pub ends_on : (p : Parts) (xs : List Mark) (x : Mark) → ends p (xs ++ x ∷ []) ≡ (if tells_end p x then 1 else 0) + ends p xs
 ends_on p [] x = refl
 ends_on p (y ∷ ys) x =
     let more = ends_on p ys x in

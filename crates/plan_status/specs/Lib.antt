@@ -4,3 +4,4 @@ pub mod Outcomes
 pub mod Trues
 pub mod Consoles
 pub mod Live
+pub mod Formats

@@ -1,6 +1,5 @@
--- Lines on their way from lanes to a sink: what a feed has put into its ring, and what a tap has taken out of it.
+-- Marks on their way from lanes to who prints: what a feed has put into its ring, and what a tap has taken out of it.
 use Rattle.std.specs.Prelude.{◌≡◌, ℕ, ◌≤◌, List, [], ◌++◌, None, length, take}
-use Rattle.std.specs.List.{concat}
 use Rattle.rtrb.specs.Ring.{IsPair, SameConsumer, SameProducer, received, sent}
 use Rattle.plan_image.specs.declared.image.Parts.{Parts}
 use Rattle.plan_machine.specs.declared.event.mark.Mark.{Mark}
@@ -8,15 +7,6 @@ use Rattle.plan_status.specs.declared.feed.Feed.{Feed}
 use Rattle.plan_status.specs.declared.tap.Tap.{Tap}
 use Rattle.plan_status.specs.declared.line_progress.LineProgress.{LineProgress}
 use Rattle.plan_status.specs.Consoles.{AreFree, HasLooked}
-use Rattle.plan_status.specs.Lines.{ends, lines_of}
-
--- all that was put into the ring
-abbrev pub sent_text : Feed → List ℕ
-sent_text f = concat (sent f.ring)
-
--- all that was taken out of it
-abbrev pub received_text : Tap → List ℕ
-received_text t = concat (received t.ring)
 
 -- the two ends of one ring
 abbrev pub AreEnds : Feed → Tap → Type 0
@@ -29,42 +19,38 @@ SameFeed f g = SameProducer f.ring g.ring
 abbrev pub SameTap : Tap → Tap → Type 0
 SameTap t u = SameConsumer t.ring u.ring
 
--- What was put in is the lines of the first `shown` of these marks; `ended` counts those that say how a command edge
--- ended.
-pub record IsFed (p : Parts) (total : ℕ) (marks : List Mark) (f : Feed) : Type 0 where
+-- What was put in is the first `shown` of these marks.
+pub record IsFed (marks : List Mark) (f : Feed) : Type 0 where
   pub within : f.shown ≤ length marks
-  pub sent : sent_text f ≡ lines_of p total (take f.shown marks)
-  pub ended : f.ended ≡ ends p (take f.shown marks)
+  pub sent : sent f.ring ≡ take f.shown marks
 
 -- nothing was put in, or taken out
 pub record IsUnused (f : Feed) : Type 0 where
-  pub sent : sent_text f ≡ []
+  pub sent : sent f.ring ≡ []
   pub shown : f.shown ≡ 0
-  pub ended : f.ended ≡ 0
 
 pub record IsUntapped (t : Tap) : Type 0 where
-  pub received : received_text t ≡ []
+  pub received : received t.ring ≡ []
   pub stop : t.stop ≡ None
 
--- The feed has the lines of the first marks: at most those up to the last mark after which no console edge holds a
--- job token.
+-- The feed has the first marks: at most those up to the last mark after which no console edge holds a job token.
 pub record IsLineProgress (p : Parts) (marks : List Mark) (s : LineProgress) : Type 0 where
   pub looked : HasLooked p marks s.consoles
-  pub fed : IsFed p s.total marks s.feed
+  pub fed : IsFed marks s.feed
   pub behind : s.feed.shown ≤ s.consoles.free
 
 -- ---- laws
 
 -- more marks may come
 abbrev pub FeedStays : Type 0
-FeedStays = (p : Parts) (total : ℕ) (marks more : List Mark) (f : Feed) → IsFed p total marks f → IsFed p total (marks ++ more) f
+FeedStays = (marks more : List Mark) (f : Feed) → IsFed marks f → IsFed (marks ++ more) f
 
 abbrev pub LineProgressStays : Type 0
 LineProgressStays = (p : Parts) (marks more : List Mark) (s : LineProgress) → IsLineProgress p marks s → IsLineProgress p (marks ++ more) s
 
 -- a feed into which nothing was put fits any run
 abbrev pub UnusedIsFed : Type 0
-UnusedIsFed = (p : Parts) (total : ℕ) (marks : List Mark) (f : Feed) → IsUnused f → IsFed p total marks f
+UnusedIsFed = (marks : List Mark) (f : Feed) → IsUnused f → IsFed marks f
 
 -- what is shown is free
 abbrev pub ShownIsFree : Type 0

@@ -1,4 +1,4 @@
-//! The progress of the status lines of a run while it goes on. Lanes hold it under their lock.
+//! The progress of what is shown of a run while it goes on. Lanes hold it under their lock.
 
 ghost use Rattle.std.specs.Prelude.{◌≡◌, List, IfErr, IfOk};
 ghost use Rattle.plan_machine.specs.declared.event.mark.Mark.{Mark as Told};
@@ -10,12 +10,11 @@ use plan_machine::Mark;
 use plan_verify::Verified;
 use std::alloc::Global;
 
-/// A feed for the status lines of one run, with the console edges that hold job tokens. While a console command runs,
-/// no line is put in.
+/// A feed for the marks of one run, with the console edges that hold job tokens. While a console command runs, no mark
+/// is put in.
 #[derive(Drop)]
 pub struct LineProgress {
     pub(crate) feed: Feed,
-    pub(crate) total: u64,
     pub(crate) consoles: Consoles,
 }
 
@@ -24,42 +23,30 @@ impl LineProgress {
     ghost use Rattle.plan_machine.specs.declared.event.mark.Mark.{Mark as Told};
     ghost use Rattle.plan_status.specs.Live.{IsFed, IsLineProgress, IsUnused, SameFeed};
 
-    /// Creates the progress of a run of this image, none of whose lines was put into the feed. `total` is the number of
-    /// command edges that the run may come to.
+    /// Creates the progress of a run of this image, none of whose marks was put into the feed.
     ///
     /// # Errors
     /// The feed, if memory runs out.
-    pub fn new(
-        alloc: Global,
-        image: &Verified,
-        total: u64,
-        feed: Feed,
-    ) -> Result<LineProgress, Feed>
+    pub fn new(alloc: Global, image: &Verified, feed: Feed) -> Result<LineProgress, Feed>
         requires { IsUnused feed }
         ensures shows { IfOk result (λ s. (marks : List Told) → IsLineProgress image.now marks s) }
-        ensures same { IfOk result (λ s. (s.feed ≡ feed) × (s.total ≡ total)) }
+        ensures same { IfOk result (λ s. s.feed ≡ feed) }
         ensures refused { IfErr result (λ f. f ≡ feed) }
     {
         match Consoles::new(alloc, image.image().parts()) {
-            Ok(consoles) => Ok(LineProgress {
-                feed,
-                total,
-                consoles,
-            }),
+            Ok(consoles) => Ok(LineProgress { feed, consoles }),
             Err(_) => Err(feed),
         }
     }
 
-    /// Puts lines into the feed, as far as there is room: those of the marks that may be reported and weren't yet. It
-    /// never waits.
+    /// Puts marks into the feed, as far as there is room: those that may be reported and weren't yet. It never waits.
     pub fn show(&mut self, image: &Verified, marks: &[Mark])
         requires { IsLineProgress image.now marks.now self.old }
         ensures shows { IsLineProgress image.now marks.now self.new }
-        ensures same { SameFeed self.old.feed self.new.feed × (self.new.total ≡ self.old.total) }
+        ensures same { SameFeed self.old.feed self.new.feed }
     {
         self.consoles.look(image.image().parts(), marks);
-        self.feed
-            .show(image, self.total, &marks[..self.consoles.free]);
+        self.feed.show(&marks[..self.consoles.free]);
     }
 
     /// Returns the feed.

@@ -1,33 +1,33 @@
 //! The end of the ring that prints.
 
-ghost use Rattle.std.specs.Prelude.{◌≡◌, ◌++◌, ℕ, List, Option, IfOk};
+ghost use Rattle.std.specs.Prelude.{◌≡◌, ◌≤◌, ◌++◌, ◌∷◌, [], ℕ, List, Option, IfOk, length, take};
 ghost use Rattle.std.specs.Result.{result_err};
-ghost use Rattle.rtrb.specs.Ring.{producer_capacity};
-ghost use Rattle.plan_status.specs.Lines.{lines_of};
-ghost use Rattle.plan_status.specs.Live.{AreEnds, IsFed, IsUntapped, IsUnused, SameTap, received_text, sent_text};
-ghost use Rattle.plan_status.specs.Printing.{Prints};
+ghost use Rattle.rtrb.specs.Ring.{producer_capacity, received, sent};
+ghost use Rattle.plan_machine.specs.declared.event.mark.Mark.{Mark as Told};
+ghost use Rattle.plan_status.specs.Formats.{HasPrinted};
+ghost use Rattle.plan_status.specs.Live.{AreEnds, IsFed, IsUntapped, IsUnused, SameTap};
 
 use crate::fault::PrintFault;
 use crate::feed::Feed;
+use crate::format::Format;
 use crate::laws::prints_join;
-use crate::printing::print_behind;
 use plan_machine::Mark;
-use plan_text::{Items, Sink, write_all, writes_join};
+use plan_text::{Sink, write_all, writes_join};
 use plan_verify::Verified;
 use rtrb::{Consumer, RingBuffer};
 use std::alloc::{AllocError, Global};
 
-/// The end of a ring from which status lines are printed while a run goes on, and the reason if printing stopped.
+/// The end of a ring from which marks are printed while a run goes on, and the reason if printing stopped.
 #[derive(Drop)]
 pub struct Tap {
     alloc: Global,
-    pub(crate) ring: Consumer<Items<u8>>,
+    pub(crate) ring: Consumer<Mark>,
     /// The reason why nothing more is written.
     pub(crate) stop: Option<PrintFault>,
 }
 
-/// Returns the two ends of a ring with room for `capacity` lines. Lanes fill one end while another thread prints from
-/// the other. No line is put into a ring without room.
+/// Returns the two ends of a ring with room for `capacity` marks. Lanes fill one end while another thread prints from
+/// the other. No mark is put into a ring without room.
 ///
 /// # Errors
 /// `AllocError` if memory runs out.
@@ -38,10 +38,8 @@ pub fn live(alloc: Global, capacity: usize) -> Result<(Feed, Tap), AllocError>
 {
     let (producer, consumer) = RingBuffer::new(alloc, capacity)?;
     let feed = Feed {
-        alloc,
         ring: producer,
         shown: 0,
-        ended: 0,
     };
     let tap = Tap {
         alloc,
@@ -51,86 +49,163 @@ pub fn live(alloc: Global, capacity: usize) -> Result<(Feed, Tap), AllocError>
     Ok((feed, tap))
 }
 
-/// Writes a text after what was written, unless writing was stopped. Returns the reason if it is stopped.
-fn write_on<W: Sink>(stop: Option<PrintFault>, text: &[u8], out: &mut W) -> Option<PrintFault>
-    ensures { (start : ℕ × Option (List ℕ)) (done : List ℕ)
-        → Prints done stop start (W.failures out.old, W.taken out.old) → Prints (done ++ text.now) result start (W.failures out.new, W.taken out.new) }
+/// Writes the text of one more mark, unless printing was stopped. Returns the reason if it is stopped.
+fn print_mark<F: Format, W: Sink>(
+    alloc: Global,
+    stop: Option<PrintFault>,
+    image: &Verified,
+    total: u64,
+    mark: Mark,
+    format: &mut F,
+    out: &mut W,
+) -> Option<PrintFault>
+    ensures printed { (start : ℕ × Option (List ℕ)) (marks : List Told)
+        → HasPrinted (F.tells format.old image.now total) marks stop start (W.failures out.old, W.taken out.old)
+        → HasPrinted (F.tells format.new image.now total) (marks ++ mark ∷ []) result start (W.failures out.new, W.taken out.new) }
+    ensures same { F.kept format.new ≡ F.kept format.old }
 {
     writes_join();
     prints_join();
     if stop.is_some() {
         return stop;
     }
-    match write_all(out, text) {
-        Ok(()) => None,
-        Err(_) => Some(PrintFault::Write),
+    match format.line(alloc, image, total, mark) {
+        Ok(line) => match write_all(out, &line) {
+            Ok(()) => None,
+            Err(_) => Some(PrintFault::Write),
+        },
+        Err(_) => Some(PrintFault::Memory),
+    }
+}
+
+/// Prints the marks from index `from` on, unless printing was stopped. Returns the reason if it is stopped.
+fn print_rest<F: Format, W: Sink>(
+    alloc: Global,
+    stop: Option<PrintFault>,
+    image: &Verified,
+    total: u64,
+    marks: &[Mark],
+    from: usize,
+    format: &mut F,
+    out: &mut W,
+) -> Option<PrintFault>
+    requires { from ≤ length marks.now }
+    ensures printed { (start : ℕ × Option (List ℕ))
+        → HasPrinted (F.tells format.old image.now total) (take from marks.now) stop start (W.failures out.old, W.taken out.old)
+        → HasPrinted (F.tells format.new image.now total) marks.now result start (W.failures out.new, W.taken out.new) }
+    ensures same { F.kept format.new ≡ F.kept format.old }
+{
+    let mut stop = stop;
+    for at in from..marks.len() {
+        stop = print_mark(alloc, stop, image, total, marks[at], format, out);
+    }
+    stop
+}
+
+/// Prints the marks of a run by a format that begins with them. It holds the text of one mark at a time.
+///
+/// # Errors
+/// `Memory` or `Write`. Then a prefix of a text of the first marks is written.
+pub fn print_by<F: Format, W: Sink>(
+    alloc: Global,
+    image: &Verified,
+    total: u64,
+    marks: &[Mark],
+    format: &mut F,
+    out: &mut W,
+) -> Result<(), PrintFault>
+    ensures printed { HasPrinted (F.tells format.new image.now total) marks.now (result_err result) (W.failures out.old, W.taken out.old) (W.failures out.new, W.taken out.new) }
+    ensures same { F.kept format.new ≡ F.kept format.old }
+{
+    format.begin();
+    match print_rest(alloc, None, image, total, marks, 0, format, out) {
+        Some(fault) => Err(fault),
+        None => Ok(()),
     }
 }
 
 impl Tap {
     ghost use Rattle.std.specs.Prelude.{◌≡◌, ℕ, List, Option};
     ghost use Rattle.std.specs.Result.{result_err};
-    ghost use Rattle.plan_status.specs.Lines.{lines_of};
-    ghost use Rattle.plan_status.specs.Live.{AreEnds, IsFed, SameTap, received_text, sent_text};
-    ghost use Rattle.plan_status.specs.Printing.{Prints};
+    ghost use Rattle.rtrb.specs.Ring.{received, sent};
+    ghost use Rattle.plan_status.specs.Formats.{HasPrinted};
+    ghost use Rattle.plan_status.specs.Live.{AreEnds, IsFed, SameTap};
 
-    /// Takes the lines in the ring and writes them, until a write fails. After that it only takes them. It never waits
-    /// for lanes.
-    pub fn print<W: Sink>(&mut self, out: &mut W)
-        ensures printed { (start : ℕ × Option (List ℕ)) → Prints (received_text self.old) self.old.stop start (W.failures out.old, W.taken out.old)
-            → Prints (received_text self.new) self.new.stop start (W.failures out.new, W.taken out.new) }
+    /// Takes the marks in the ring and prints them, until memory runs out or a write fails. After that it only takes
+    /// them. It never waits for lanes.
+    pub fn print<F: Format, W: Sink>(
+        &mut self,
+        image: &Verified,
+        total: u64,
+        format: &mut F,
+        out: &mut W,
+    )
+        ensures printed { (start : ℕ × Option (List ℕ))
+            → HasPrinted (F.tells format.old image.now total) (received self.old.ring) self.old.stop start (W.failures out.old, W.taken out.old)
+            → HasPrinted (F.tells format.new image.now total) (received self.new.ring) self.new.stop start (W.failures out.new, W.taken out.new) }
         ensures ring { SameTap self.old self.new }
+        ensures same { F.kept format.new ≡ F.kept format.old }
     {
         for _ in 0..u64::MAX {
-            let Ok(line) = self.ring.pop() else {
+            let Ok(mark) = self.ring.pop() else {
                 return;
             };
-            self.stop = write_on(self.stop, line.as_slice(), out);
+            self.stop = print_mark(self.alloc, self.stop, image, total, mark, format, out);
         }
     }
 
-    /// Takes all lines that the feed has put in, and writes them.
-    fn drain<W: Sink>(&mut self, feed: &mut Feed, out: &mut W)
+    /// Takes all marks that the feed has put in, and prints them.
+    fn drain<F: Format, W: Sink>(
+        &mut self,
+        feed: &mut Feed,
+        image: &Verified,
+        total: u64,
+        format: &mut F,
+        out: &mut W,
+    )
         requires { AreEnds feed.old self.old }
-        ensures all { received_text self.new ≡ sent_text feed.old }
-        ensures printed { (start : ℕ × Option (List ℕ)) → Prints (received_text self.old) self.old.stop start (W.failures out.old, W.taken out.old)
-            → Prints (received_text self.new) self.new.stop start (W.failures out.new, W.taken out.new) }
-        ensures same { (feed.new.shown ≡ feed.old.shown) × (feed.new.ended ≡ feed.old.ended) }
+        ensures all { received self.new.ring ≡ sent feed.old.ring }
+        ensures printed { (start : ℕ × Option (List ℕ))
+            → HasPrinted (F.tells format.old image.now total) (received self.old.ring) self.old.stop start (W.failures out.old, W.taken out.old)
+            → HasPrinted (F.tells format.new image.now total) (received self.new.ring) self.new.stop start (W.failures out.new, W.taken out.new) }
+        ensures shown { feed.new.shown ≡ feed.old.shown }
+        ensures same { F.kept format.new ≡ F.kept format.old }
     {
         let count = self.ring.slots_beside(&mut feed.ring);
         for _ in 0..count {
-            let line = self.ring.pop_known();
-            self.stop = write_on(self.stop, line.as_slice(), out);
+            let mark = self.ring.pop_known();
+            self.stop = print_mark(self.alloc, self.stop, image, total, mark, format, out);
         }
     }
 
-    /// Prints the rest of a run when lanes have returned the feed: the lines that are still in the ring, and those that
-    /// weren't put in. If it returns Ok, these and the lines printed before are the lines of all marks, each once and
-    /// in their order.
+    /// Prints the rest of a run when lanes have returned the feed: the marks that are still in the ring, and those that
+    /// weren't put in. If it returns Ok, all marks are printed, each once and in their order.
     ///
     /// # Errors
-    /// `Memory` or `Write`, now or in an earlier print. Then a prefix of the lines is written.
-    pub fn settle<W: Sink>(
+    /// `Memory` or `Write`, now or in an earlier print. Then a prefix of a text of the first marks is written.
+    pub fn settle<F: Format, W: Sink>(
         self,
         feed: Feed,
         image: &Verified,
         total: u64,
         marks: &[Mark],
+        format: &mut F,
         out: &mut W,
     ) -> Result<(), PrintFault>
         requires ends { AreEnds feed self }
-        requires fed { IsFed image.now total marks.now feed }
-        ensures { (start : ℕ × Option (List ℕ)) → Prints (received_text self) self.stop start (W.failures out.old, W.taken out.old)
-            → Prints (lines_of image.now total marks.now) (result_err result) start (W.failures out.new, W.taken out.new) }
+        requires fed { IsFed marks.now feed }
+        ensures printed { (start : ℕ × Option (List ℕ))
+            → HasPrinted (F.tells format.old image.now total) (received self.ring) self.stop start (W.failures out.old, W.taken out.old)
+            → HasPrinted (F.tells format.new image.now total) marks.now (result_err result) start (W.failures out.new, W.taken out.new) }
+        ensures same { F.kept format.new ≡ F.kept format.old }
     {
-        writes_join();
-        prints_join();
         let mut tap = self;
         let mut feed = feed;
-        tap.drain(&mut feed, out);
-        match tap.stop {
+        tap.drain(&mut feed, image, total, format, out);
+        let shown = feed.shown;
+        match print_rest(tap.alloc, tap.stop, image, total, marks, shown, format, out) {
             Some(fault) => Err(fault),
-            None => print_behind(tap.alloc, image, total, marks, feed.shown, feed.ended, out),
+            None => Ok(()),
         }
     }
 }

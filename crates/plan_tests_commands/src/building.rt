@@ -1,9 +1,10 @@
 //! Builds of manifests in memory. In most worlds here, the edge that builds the manifest is out of date `rounds` times.
 
 use crate::fakes::{Failing, Generator, Touched, Versions};
-use plan_commands::{Done, Order, PlanFault, do_build, do_dry_build};
+use plan_commands::{Done, Order, PlanFault, Printer, do_build, do_dry_build};
 use plan_lanes::World;
 use plan_machine::Options;
+use plan_status::StatusLines;
 use plan_text::{Counted, Sink};
 use std::alloc::{AllocError, Global};
 use std::mem::forget;
@@ -52,7 +53,11 @@ fn build_to<
         targets,
     };
     let bell = Parker::new();
-    Ok(do_build(rt, rt.alloc(), &mut source, &order, world, &bell, out))
+    let format = StatusLines::new();
+    let printer = Printer { format, out };
+    let (done, printer) = do_build(rt, rt.alloc(), &mut source, &order, world, &bell, printer);
+    let Printer { out, .. } = printer;
+    Ok((done, out))
 }
 
 /// Returns how a build ended, or the line of its fault.
@@ -91,8 +96,12 @@ fn previewed<'x, R: Threads + Wait + Sync + AllocGlobal>(
         targets: &[],
     };
     let bell = Parker::new();
-    let out = Counted::new(Vec::new(rt.alloc()));
-    let (done, out) = do_dry_build(rt, rt.alloc(), &mut source, &order, world, &bell, out);
+    let printer = Printer {
+        format: StatusLines::new(),
+        out: Counted::new(Vec::new(rt.alloc())),
+    };
+    let (done, printer) = do_dry_build(rt, rt.alloc(), &mut source, &order, world, &bell, printer);
+    let Printer { out, .. } = printer;
     Ok((out.into_writer(), line_of(rt.alloc(), done)?))
 }
 

@@ -3,7 +3,7 @@
 use plan_image::{Edge, EdgeCode, Edges, Image, Instr, Parts, Sort};
 use plan_lanes::*;
 use plan_machine::{Mark, Options, Outcome, Refused, Reply};
-use plan_status::{ends_stay, live};
+use plan_status::{StatusLines, ends_stay, live};
 use plan_text::{Counted as Sinks, Items, RowList, Sink};
 use plan_verify::{PathList, Refusal, Verified, VerifyFault, verify, verify_by};
 use std::alloc::{AllocError, Global};
@@ -588,8 +588,8 @@ fn target_outside(rt: HostRuntime) {
     assert_eq!(rt; world.calls.load(Ordering::SeqCst), 0);
 }
 
-/// Runs an image, sends its lines through a ring for `room` lines, and settles the ring. Returns whether all lines were
-/// put in while lanes ran, and whether all were written.
+/// Runs an image, sends its marks through a ring for `room` marks, and settles the ring. Returns whether all marks were
+/// put in while lanes ran, and whether all lines were written.
 fn shown_run<R: Threads + Wait + Sync, O: Sink>(
     rt: &R,
     alloc: Global,
@@ -608,14 +608,15 @@ fn shown_run<R: Threads + Wait + Sync, O: Sink>(
         Ok(report) => {
             let total = report.state.total();
             let all = feed.shown() == report.marks.len();
-            let settled = tap.settle(feed, image, total, &report.marks, out);
+            let mut format = StatusLines::new();
+            let settled = tap.settle(feed, image, total, &report.marks, &mut format, out);
             Some((all, settled.is_ok()))
         }
         Err(_) => None,
     }
 }
 
-/// All lines of a run are written, including lines for which the ring had no room while lanes ran.
+/// All lines of a run are written, including those of marks for which the ring had no room while lanes ran.
 #[test]
 fn lines_are_shown(rt: HostRuntime) {
     let alloc = rt.alloc();

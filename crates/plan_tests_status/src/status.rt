@@ -99,8 +99,8 @@ fn tell(alloc: Global, marks: &[Mark], text: &[u8]) -> bool {
     }
 }
 
-/// Shows the marks, prints the lines that are in the ring, shows the marks again and settles. Returns whether all lines
-/// were written.
+/// Shows the marks, prints those that are in the ring, shows the marks again and settles. Returns whether all lines were
+/// written.
 fn settled<W: Sink>(image: &Verified, marks: &[Mark], ends: (Feed, Tap), out: &mut W) -> bool
     requires ends { AreEnds ends.0 ends.1 }
     requires unused { IsUnused ends.0 }
@@ -108,13 +108,14 @@ fn settled<W: Sink>(image: &Verified, marks: &[Mark], ends: (Feed, Tap), out: &m
     marks_may_come();
     ends_stay();
     let (mut feed, mut tap) = ends;
-    feed.show(image, 4, marks);
-    tap.print(out);
-    feed.show(image, 4, marks);
-    tap.settle(feed, image, 4, marks, out).is_ok()
+    let mut format = StatusLines::new();
+    feed.show(marks);
+    tap.print(image, 4, &mut format, out);
+    feed.show(marks);
+    tap.settle(feed, image, 4, marks, &mut format, out).is_ok()
 }
 
-/// Rings for 0, 1, 2 and 256 lines give the same text.
+/// Rings for 0, 1, 2 and 256 marks give the same text.
 #[test]
 fn lines_through_a_ring(rt: HostRuntime) {
     let alloc = rt.alloc();
@@ -149,12 +150,13 @@ fn printed_meanwhile(alloc: Global, image: &Verified, marks: &[Mark], text: &[u8
         return None;
     };
     let mut out = Counted::new(Vec::new(alloc));
-    feed.show(image, 4, marks);
-    tap.print(&mut out);
+    let mut format = StatusLines::new();
+    feed.show(marks);
+    tap.print(image, 4, &mut format, &mut out);
     Some(feed.shown() == marks.len() && out.into_writer().as_slice() == text)
 }
 
-/// Lines are in the ring as soon as their marks are shown, and `print` writes them.
+/// Marks are in the ring as soon as they are shown, and `print` writes their lines.
 #[test]
 fn lines_come_while_it_runs(rt: HostRuntime) {
     let alloc = rt.alloc();
@@ -173,7 +175,7 @@ fn lines_come_while_it_runs(rt: HostRuntime) {
     );
 }
 
-/// If a write in `print` failed, `settle` returns the error, although no line is left to write.
+/// If a write in `print` failed, `settle` returns the error, although no mark is left to print.
 #[test]
 fn failed_print_is_settled(rt: HostRuntime) {
     let alloc = rt.alloc();

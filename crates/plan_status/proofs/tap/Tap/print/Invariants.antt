@@ -1,10 +1,11 @@
-use Rattle.std.proofs.Common.{ℕ, List, Option}
-use Rattle.plan_status.specs.Live.{SameTap, received_text}
-use Rattle.plan_status.specs.Printing.{Prints}
+use Rattle.std.proofs.Common.{◌≡◌, ℕ, List, Option}
+use Rattle.rtrb.specs.Ring.{received}
+use Rattle.plan_status.specs.Formats.{HasPrinted}
+use Rattle.plan_status.specs.Live.{SameTap}
 use Rattle.plan_status.proofs.tap.Tap.print.Given as goal
 
 abbrev pub invariant-loop : goal.invariant-loop
 invariant-loop g l =
-    ((start : ℕ × Option (List ℕ)) → Prints (received_text l.fn.self) l.fn.self.stop start (g.W.Sink.failures l.fn.out, g.W.Sink.taken l.fn.out)
-    → Prints (received_text l.self) l.self.stop start (g.W.Sink.failures l.out, g.W.Sink.taken l.out))
-    × SameTap l.fn.self l.self
+    ((start : ℕ × Option (List ℕ)) → HasPrinted (g.F.Format.tells l.fn.format l.image l.total) (received l.fn.self.ring) l.fn.self.stop start (g.W.Sink.failures l.fn.out, g.W.Sink.taken l.fn.out)
+    → HasPrinted (g.F.Format.tells l.format l.image l.total) (received l.self.ring) l.self.stop start (g.W.Sink.failures l.out, g.W.Sink.taken l.out))
+    × SameTap l.fn.self l.self × (g.F.Format.kept l.format ≡ g.F.Format.kept l.fn.format)

@@ -1,38 +1,32 @@
-use Rattle.std.proofs.Common.{◌≡◌, List, Option, ℕ, None, Some, drop, subst, take, ◌∙◌}
-use Rattle.std.specs.Result.{result_err}
+use Rattle.std.proofs.Common.{◌≡◌, ℕ, List, Option, ap, subst, sym, take, ◌∙◌}
+use Rattle.rtrb.specs.Ring.{received}
+use Rattle.plan_machine.specs.declared.event.mark.Mark.{Mark}
 use Rattle.plan_status.specs.declared.fault.PrintFault.{PrintFault}
-use Rattle.plan_status.specs.Lines.{lines_behind, lines_of}
-use Rattle.plan_status.specs.Live.{received_text}
-use Rattle.plan_status.specs.Printing.{Prints}
-use Rattle.plan_status.proofs.LinesLemmas.{lines_split}
+use Rattle.plan_status.specs.Formats.{HasPrinted}
 use Rattle.plan_status.proofs.tap.Tap.settle.Goals as goal
 
-pub returns-in-Some : goal.returns-in-Some
-returns-in-Some g c = λ start before.
-    let p = c.args.image.now in
+pub returns-in-Some-clause-printed : goal.returns-in-Some-clause-printed
+returns-in-Some-clause-printed g c = λ start before.
     let marks = c.args.marks.now in
-    let n = c.args.feed.shown in
-    let mid : ℕ × Option (List ℕ) = (g.W.Sink.failures c.drain.new.out, g.W.Sink.taken c.drain.new.out) in
-    let fed : List ℕ = lines_of p c.args.total (take n marks) in
-    let rest : List ℕ = lines_behind p c.args.total (take n marks) (drop n marks) in
-    let text : received_text c.drain.new.self ≡ fed = c.drain.ensures.all ∙ c.requires.fed.sent in
-    let printed : Prints fed c.drain.new.self.stop start mid = subst (λ (t : List ℕ). Prints t c.drain.new.self.stop start mid) text (c.drain.ensures.printed start before) in
-    let stopped : Prints fed (Some c.in-Some.fault) start mid = subst (λ (s : Option PrintFault). Prints fed s start mid) c.in-Some.is printed in
-    subst (λ (t : List ℕ). Prints t (Some c.in-Some.fault) start mid) (lines_split p c.args.total n marks) (c.prints_join.ensures.stopped start mid fed rest c.in-Some.fault stopped)
+    let now : ℕ × Option (List ℕ) = (g.W.Sink.failures c.drain.new.out, g.W.Sink.taken c.drain.new.out) in
+    let new : ℕ × Option (List ℕ) = (g.W.Sink.failures c.print_rest.new.out, g.W.Sink.taken c.print_rest.new.out) in
+    let mid : List Mark → List ℕ → Type 0 = g.F.Format.tells c.drain.new.format c.args.image.now c.args.total in
+    let tells : List Mark → List ℕ → Type 0 = g.F.Format.tells c.print_rest.new.format c.args.image.now c.args.total in
+    let all : received c.drain.new.self.ring ≡ take c.drain.new.feed.shown marks
+    = c.drain.ensures.all ∙ (c.requires.fed.sent ∙ ap (λ (k : ℕ). take k marks) (sym c.drain.ensures.shown)) in
+    let drained : HasPrinted mid (take c.drain.new.feed.shown marks) c.drain.new.self.stop start now
+    = subst (λ (ms : List Mark). HasPrinted mid ms c.drain.new.self.stop start now) all (c.drain.ensures.printed start before) in
+    subst (λ (stop : Option PrintFault). HasPrinted tells marks stop start new) c.in-Some.is (c.print_rest.ensures.printed start drained)
 
-pub returns : goal.returns
-returns g c = λ start before.
-    let p = c.args.image.now in
+pub returns-clause-printed : goal.returns-clause-printed
+returns-clause-printed g c = λ start before.
     let marks = c.args.marks.now in
-    let n = c.args.feed.shown in
-    let mid : ℕ × Option (List ℕ) = (g.W.Sink.failures c.drain.new.out, g.W.Sink.taken c.drain.new.out) in
-    let new : ℕ × Option (List ℕ) = (g.W.Sink.failures c.print_behind.new.out, g.W.Sink.taken c.print_behind.new.out) in
-    let stop : Option PrintFault = result_err c.print_behind.result in
-    let fed : List ℕ = lines_of p c.args.total (take n marks) in
-    let rest : List ℕ = lines_behind p c.args.total (take n marks) (drop n marks) in
-    let text : received_text c.drain.new.self ≡ fed = c.drain.ensures.all ∙ c.requires.fed.sent in
-    let printed : Prints fed c.drain.new.self.stop start mid = subst (λ (t : List ℕ). Prints t c.drain.new.self.stop start mid) text (c.drain.ensures.printed start before) in
-    let done : Prints fed None start mid = subst (λ (s : Option PrintFault). Prints fed s start mid) c.in-None.is printed in
-    let behind : Prints rest stop mid new
-    = subst (λ (k : ℕ). Prints (lines_behind p c.args.total (take k marks) (drop k marks)) stop mid new) c.drain.ensures.same.0 c.print_behind.ensures in
-    subst (λ (t : List ℕ). Prints t stop start new) (lines_split p c.args.total n marks) (c.prints_join.ensures.join start mid new fed rest stop done behind)
+    let now : ℕ × Option (List ℕ) = (g.W.Sink.failures c.drain.new.out, g.W.Sink.taken c.drain.new.out) in
+    let new : ℕ × Option (List ℕ) = (g.W.Sink.failures c.print_rest.new.out, g.W.Sink.taken c.print_rest.new.out) in
+    let mid : List Mark → List ℕ → Type 0 = g.F.Format.tells c.drain.new.format c.args.image.now c.args.total in
+    let tells : List Mark → List ℕ → Type 0 = g.F.Format.tells c.print_rest.new.format c.args.image.now c.args.total in
+    let all : received c.drain.new.self.ring ≡ take c.drain.new.feed.shown marks
+    = c.drain.ensures.all ∙ (c.requires.fed.sent ∙ ap (λ (k : ℕ). take k marks) (sym c.drain.ensures.shown)) in
+    let drained : HasPrinted mid (take c.drain.new.feed.shown marks) c.drain.new.self.stop start now
+    = subst (λ (ms : List Mark). HasPrinted mid ms c.drain.new.self.stop start now) all (c.drain.ensures.printed start before) in
+    subst (λ (stop : Option PrintFault). HasPrinted tells marks stop start new) c.in-None.is (c.print_rest.ensures.printed start drained)

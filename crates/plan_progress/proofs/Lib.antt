@@ -1,0 +1,4 @@
+pub mod CommandLemmas
+pub mod FailuresLemmas
+pub mod BuildLinesLemmas
+mod Rows

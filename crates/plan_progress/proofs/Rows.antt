@@ -1,0 +1,99 @@
+-- The texts of small builds.
+use Rattle.std.proofs.Common.{◌≡◌, ℕ, List, [], ◌∷◌, ◌++◌, true, false, Some, None, refl}
+use Rattle.std.specs.Fmt.{digits}
+use Rattle.std.specs.Prelude.{codes}
+use Rattle.plan_image.specs.declared.instr.Instr.{Instr}
+use Rattle.plan_image.specs.declared.instr.Instr.TheVariants as op
+use Rattle.plan_image.specs.declared.image.Sort.TheVariants as sort
+use Rattle.plan_image.specs.declared.image.EdgeCode.TheVariants.{Own}
+use Rattle.plan_image.specs.declared.image.Parts.{Parts}
+use Rattle.plan_verify.specs.declared.value.Cause.TheVariants as cause
+use Rattle.plan_machine.specs.declared.event.mark.Mark.{Mark}
+use Rattle.plan_machine.specs.declared.event.mark.Mark.TheVariants.{Started, Took, Ended, Failed, Skipped, Stopped}
+use Rattle.plan_progress.specs.declared.display.Display.{Display}
+use Rattle.plan_progress.specs.declared.style.Style.{Style}
+use Rattle.plan_progress.specs.declared.style.Style.TheVariants.{Labels, Commands, Failures}
+use Rattle.plan_progress.specs.Command.{text_before_run}
+use Rattle.plan_progress.specs.BuildLines.{Entry, first_line, text_of}
+
+-- the code of an edge that runs a text
+abbrev running : ℕ → List Instr
+running n = op.Take ∷ op.Text n ∷ op.Run ∷ op.Release ∷ op.Text n ∷ op.Drop ∷ op.End ∷ []
+
+-- edge 0 makes a.o of the file a.c, edge 1 makes app and app.map of a.o, and edge 2 is an alias of app
+abbrev build : Parts
+build = record {
+  texts = codes "CC a.o" ∷ codes "cc -c a.c" ∷ codes "LINK app" ∷ codes "ld -o app a.o" ∷ [] ∷ [];
+  files = codes "a.o" ∷ codes "app" ∷ codes "app.map" ∷ codes "all" ∷ codes "a.c" ∷ [];
+  pools = [];
+  slots = [];
+  bodies = None;
+  edges = record { sort = sort.Command; pool = None; rank = 0; label = 0; outputs = 0 ∷ []; waits = []; code = Own (running 1) }
+      ∷ record { sort = sort.Command; pool = None; rank = 1; label = 2; outputs = 1 ∷ 2 ∷ []; waits = 0 ∷ []; code = Own (running 3) }
+      ∷ record { sort = sort.Phony; pool = None; rank = 2; label = 4; outputs = 3 ∷ []; waits = 1 ∷ []; code = Own (op.End ∷ []) }
+      ∷ [];
+  defaults = 2 ∷ [];
+}
+
+abbrev line : List ℕ → List ℕ
+line text = text ++ 10 ∷ []
+
+abbrev in_pipe : Style → Display
+in_pipe style = record { style = style; on_terminal = false }
+
+abbrev on_terminal : Style → Display
+on_terminal style = record { style = style; on_terminal = true }
+
+-- carriage return, erase the line, don't wrap; the text; wrap again
+abbrev over : List ℕ → List ℕ
+over text = 13 ∷ 27 ∷ 91 ∷ 75 ∷ 27 ∷ 91 ∷ 63 ∷ 55 ∷ 108 ∷ text ++ 27 ∷ 91 ∷ 63 ∷ 55 ∷ 104 ∷ []
+
+abbrev with_output : Mark → List ℕ → Entry
+with_output mark output = record { mark = mark; output = Some output }
+
+abbrev silent : Mark → Entry
+silent mark = record { mark = mark; output = None }
+
+last_text_counts : text_before_run None (op.Text 1 ∷ op.Text 2 ∷ op.Run ∷ op.Text 3 ∷ op.Run ∷ []) ≡ Some 2
+last_text_counts = refl
+
+-- two commands run, the first one prints a warning, and the alias ends without a line
+all_run : text_of (in_pipe Labels) build 2 (silent (Started 0) ∷ with_output (Ended 0 true) (line (codes "warning")) ∷ silent (Ended 1 true) ∷ silent (Ended 2 false) ∷ [])
+    ≡ line (codes "[1/2] CC a.o") ++ line (codes "warning") ++ line (codes "[2/2] LINK app")
+unfolding digits
+all_run = refl
+
+-- one edge is clean, and the command of the other fails
+one_fails : text_of (in_pipe Commands) build 2 (silent (Ended 0 false) ∷ with_output (Failed 1 (cause.Exit 2)) (line (codes "no main")) ∷ [])
+    ≡ line (codes "[1/1] ld -o app a.o") ++ line (codes "FAILED: [code=2] app app.map ") ++ line (codes "ld -o app a.o") ++ line (codes "no main")
+unfolding digits
+one_fails = refl
+
+-- an input is missing, and the other edge is skipped
+input_is_missing : text_of (in_pipe Labels) build 2 (silent (Failed 0 (cause.MissingInput 4)) ∷ silent (Skipped 1 0) ∷ silent (Skipped 2 1) ∷ [])
+    ≡ line (codes "ninja: error: 'a.c', needed by 'a.o', missing and no known rule to make it") ++ line (codes "1 skipped")
+unfolding digits
+input_is_missing = refl
+
+-- only the failure is shown, and the counts at the end
+failures_only : text_of (in_pipe Failures) build 3 (with_output (Ended 0 true) (line (codes "warning")) ∷ silent (Failed 1 cause.Signal) ∷ silent (Stopped 1) ∷ [])
+    ≡ line (codes "FAILED: [signal] app app.map ") ++ line (codes "ld -o app a.o") ++ line (codes "1 not started")
+unfolding digits
+failures_only = refl
+
+-- on a terminal: each line is written over the one before, and only the output and the end are on lines of their own
+written_over : text_of (on_terminal Labels) build 2 (silent (Took 0) ∷ with_output (Ended 0 true) (line (codes "warning")) ∷ silent (Took 1) ∷ silent (Ended 1 true) ∷ silent (Ended 2 false) ∷ [])
+    ≡ over (codes "[0/2] CC a.o") ++ over (codes "[1/2] CC a.o") ++ line [] ++ line (codes "warning") ++ over (codes "[1/2] LINK app") ++ over (codes "[2/2] LINK app") ++ line []
+unfolding digits
+written_over = refl
+
+-- on a terminal: the failure is below the line of its command, and the counts of the end are below the failure
+fails_on_terminal : text_of (on_terminal Commands) build 2 (silent (Took 0) ∷ with_output (Failed 0 (cause.Exit 1)) (line (codes "no a.c")) ∷ silent (Skipped 1 0) ∷ [])
+    ≡ over (codes "[0/2] cc -c a.c") ++ over (codes "[1/2] cc -c a.c") ++ line []
+    ++ line (codes "FAILED: [code=1] a.o ") ++ line (codes "cc -c a.c") ++ line (codes "no a.c") ++ line (codes "1 skipped")
+unfolding digits
+fails_on_terminal = refl
+
+-- a label is cut before its first line feed
+first_line_only : first_line (line (codes "cat <<E") ++ line (codes "E")) ≡ codes "cat <<E"
+first_line_only = refl

@@ -1,0 +1,233 @@
+//! The texts of small builds, written by hand.
+
+use crate::{BuildLines, Display, Outputs, Style};
+use plan_image::{Edge, EdgeCode, Edges, Image, Instr, Parts, Sort};
+use plan_machine::{Cause, Mark};
+use plan_status::Format;
+use plan_text::{Items, RowList};
+use plan_verify::{Verified, verify};
+use std::alloc::{AllocError, Global};
+use std::test::Fail;
+
+/// Outputs of which only the one of the edge with this first output says anything.
+#[derive(Drop)]
+struct Warning {
+    alloc: Global,
+    edge: &'static [u8],
+}
+
+impl Outputs for Warning {
+    ghost taken = { λ _ _ _. Unit {0} };
+
+    fn take(&self, edge: &[u8]) -> Option<Vec<u8>> {
+        if edge != self.edge {
+            return None;
+        }
+        match Vec::from_slice(self.alloc, b"warning\n".as_slice()) {
+            Ok(output) => Some(output),
+            Err(_) => None,
+        }
+    }
+}
+
+/// Returns an edge that runs a text.
+fn edge_of(
+    alloc: Global,
+    rank: u32,
+    label: u32,
+    command: u32,
+    outputs: &[u32],
+    waits: &[u32],
+) -> Result<Edge, AllocError> {
+    let code = [
+        Instr::Take,
+        Instr::Text(command),
+        Instr::Run,
+        Instr::Release,
+        Instr::End,
+    ];
+    Ok(Edge {
+        sort: Sort::Command,
+        pool: None,
+        rank,
+        label,
+        outputs: Items::new(Vec::from_slice(alloc, outputs)?),
+        waits: Items::new(Vec::from_slice(alloc, waits)?),
+        code: EdgeCode::Own(Items::new(Vec::from_slice(alloc, code.as_slice())?)),
+    })
+}
+
+fn rows_of(alloc: Global, texts: &[&[u8]]) -> Result<RowList<u8>, AllocError> {
+    let mut rows = RowList::new(alloc);
+    for text in texts {
+        rows.push(text)?;
+    }
+    Ok(rows)
+}
+
+fn parts_of(alloc: Global) -> Result<Parts, AllocError> {
+    let mut edges = Edges::new(alloc);
+    edges.push(alloc, &edge_of(alloc, 0, 0, 1, &[0], &[])?)?;
+    edges.push(alloc, &edge_of(alloc, 1, 2, 3, &[1, 2], &[0])?)?;
+    Ok(Parts {
+        texts: rows_of(
+            alloc,
+            &[
+                b"CC a.o".as_slice(),
+                b"cc -c a.c",
+                b"LINK app",
+                b"ld -o app a.o",
+            ],
+        )?,
+        files: rows_of(alloc, &[b"a.o".as_slice(), b"app", b"app.map", b"a.c"])?,
+        pools: Items::empty(alloc),
+        slots: Items::empty(alloc),
+        bodies: None,
+        edges,
+        defaults: Items::new(Vec::from_slice(alloc, [1u32].as_slice())?),
+    })
+}
+
+fn image_of(alloc: Global) -> Option<Verified> {
+    let Ok(parts) = parts_of(alloc) else {
+        return None;
+    };
+    let Ok(image) = Image::new(parts) else {
+        return None;
+    };
+    match verify(alloc, image) {
+        Ok(verified) => Some(verified),
+        Err(_) => None,
+    }
+}
+
+fn in_pipe(style: Style) -> Display {
+    Display {
+        style,
+        on_terminal: false,
+    }
+}
+
+fn on_terminal(style: Style) -> Display {
+    Display {
+        style,
+        on_terminal: true,
+    }
+}
+
+/// Returns the text of these marks, of which `edge` has an output.
+fn text_of(
+    alloc: Global,
+    display: Display,
+    edge: &'static [u8],
+    marks: &[Mark],
+) -> Result<Vec<u8>, AllocError> {
+    let Some(image) = image_of(alloc) else {
+        return Err(AllocError);
+    };
+    let outputs = Warning { alloc, edge };
+    let mut format = BuildLines::new(&outputs, display);
+    format.begin();
+    let mut text = Vec::new(alloc);
+    for mark in marks {
+        let line = format.line(alloc, &image, 2, *mark)?;
+        text.extend_from_slice(&line)?;
+    }
+    Ok(text)
+}
+
+/// A command's output comes after its label.
+#[test]
+fn output_after_its_label(rt: HostRuntime) -> Result<(), Fail> {
+    let marks = [Mark::Took(0), Mark::Ended(0, true), Mark::Ended(1, true)];
+    let text = text_of(rt.alloc(), in_pipe(Style::Labels), b"a.o", &marks)?;
+    assert_eq!(rt;
+        text.as_slice(),
+        b"[1/2] CC a.o\nwarning\n[2/2] LINK app\n".as_slice()
+    );
+    Ok(())
+}
+
+/// A clean edge has no line, and isn't in the total.
+#[test]
+fn clean_edges_are_not_counted(rt: HostRuntime) -> Result<(), Fail> {
+    let marks = [Mark::Ended(0, false), Mark::Failed(1, Cause::Exit(2))];
+    let text = text_of(rt.alloc(), in_pipe(Style::Commands), b"app", &marks)?;
+    assert_eq!(rt;
+        text.as_slice(),
+        b"[1/1] ld -o app a.o\nFAILED: [code=2] app app.map \nld -o app a.o\nwarning\n".as_slice()
+    );
+    Ok(())
+}
+
+/// A missing input is named, and skipped edges are counted at the end.
+#[test]
+fn missing_input_is_named(rt: HostRuntime) -> Result<(), Fail> {
+    let marks = [Mark::Failed(0, Cause::MissingInput(3)), Mark::Skipped(1, 0)];
+    let text = text_of(rt.alloc(), in_pipe(Style::Labels), b"", &marks)?;
+    assert_eq!(rt;
+        text.as_slice(),
+        b"ninja: error: 'a.c', needed by 'a.o', missing and no known rule to make it\n1 skipped\n".as_slice()
+    );
+    Ok(())
+}
+
+/// With `--quiet` only failures are shown.
+#[test]
+fn only_failures_are_shown(rt: HostRuntime) -> Result<(), Fail> {
+    let marks = [Mark::Failed(0, Cause::Signal), Mark::Stopped(1)];
+    let text = text_of(rt.alloc(), in_pipe(Style::Failures), b"a.o", &marks)?;
+    assert_eq!(rt;
+        text.as_slice(),
+        b"FAILED: [signal] a.o \ncc -c a.c\nwarning\n1 not started\n".as_slice()
+    );
+    let ran = [Mark::Ended(0, true)];
+    let text = text_of(rt.alloc(), in_pipe(Style::Failures), b"a.o", &ran)?;
+    assert_eq!(rt; text.as_slice(), b"".as_slice());
+    Ok(())
+}
+
+/// On a terminal a line is written over the one before it, and an output begins on a new line.
+#[test]
+fn terminal_line_is_written_over(rt: HostRuntime) -> Result<(), Fail> {
+    let marks = [
+        Mark::Took(0),
+        Mark::Ended(0, true),
+        Mark::Took(1),
+        Mark::Ended(1, true),
+    ];
+    let text = text_of(rt.alloc(), on_terminal(Style::Labels), b"a.o", &marks)?;
+    assert_eq!(rt;
+        text.as_slice(),
+        b"\r\x1b[K\x1b[?7l[0/2] CC a.o\x1b[?7h\r\x1b[K\x1b[?7l[1/2] CC a.o\x1b[?7h\nwarning\n\
+          \r\x1b[K\x1b[?7l[1/2] LINK app\x1b[?7h\r\x1b[K\x1b[?7l[2/2] LINK app\x1b[?7h\n"
+            .as_slice()
+    );
+    Ok(())
+}
+
+/// On a terminal a failure begins on a new line.
+#[test]
+fn failure_on_a_terminal(rt: HostRuntime) -> Result<(), Fail> {
+    let marks = [
+        Mark::Took(0),
+        Mark::Failed(0, Cause::Exit(1)),
+        Mark::Skipped(1, 0),
+    ];
+    let text = text_of(rt.alloc(), on_terminal(Style::Commands), b"a.o", &marks)?;
+    assert_eq!(rt;
+        text.as_slice(),
+        b"\r\x1b[K\x1b[?7l[0/2] cc -c a.c\x1b[?7h\r\x1b[K\x1b[?7l[1/2] cc -c a.c\x1b[?7h\n\
+          FAILED: [code=1] a.o \ncc -c a.c\nwarning\n1 skipped\n"
+            .as_slice()
+    );
+    let missing = [Mark::Took(1), Mark::Failed(0, Cause::MissingInput(3))];
+    let text = text_of(rt.alloc(), on_terminal(Style::Labels), b"", &missing)?;
+    assert_eq!(rt;
+        text.as_slice(),
+        b"\r\x1b[K\x1b[?7l[0/2] LINK app\x1b[?7h\n\
+          ninja: error: 'a.c', needed by 'a.o', missing and no known rule to make it\n"
+            .as_slice()
+    );
+    Ok(())
+}
