@@ -13,6 +13,7 @@ import functools
 import os
 import pathlib
 import random
+import re
 import shutil
 import signal
 import subprocess
@@ -32,11 +33,14 @@ TICK = 0.02  # seconds: longer than the clock of files needs to move on
 RECORD = ".plan_record"
 BEGUN = b"/dev/null/begun"  # the only path of an entry that says that a command was begun
 STOPPED = "ninja: build stopped: subcommand failed.\n"
+NO_RULE = "missing and no known rule to make it\n"
 UNREADABLE = f"plan_ninja: can't open the record {RECORD}: is a directory\n"
 REFUSED_RECORD = f"ninja: error: can't read or write {RECORD} [133 FileFault]\n"
+LACKS_RECORD = "[1/1] build.ninja\nFAILED: [record fault] build.ninja \ncp template build.ninja\n"
 WAITING = f"plan_ninja: waiting for another build that uses {RECORD}\n"
 LOST_OUTPUT = "ninja: error: standard output can't be written [133 FileFault]\n"
-LINES = ("[", "SKIPPED ", "STOPPED ")  # of commands that ran, and of edges that didn't run after a failure
+# The lines of commands that ran, and the line that counts edges that didn't run after a failure.
+LINES = re.compile(r"\[\d+/\d+\] .*\n|\d+ skipped\n|\d+ not started\n|\d+ skipped, \d+ not started\n")
 KILLS = 8
 RULES = """rule cc
   command = : > $out
@@ -191,7 +195,7 @@ NOTHING = Wanted(set(), printed="ninja: no work to do.\n")
 def builds(place: Place, wanted: Wanted, *words: str) -> None:
     """Builds, and compares the results with the wanted ones."""
     done = ran(place, *words)
-    found = [line for line in done.stdout.decode().splitlines(True) if not line.startswith(LINES)]
+    found = [line for line in done.stdout.decode().splitlines(True) if not LINES.fullmatch(line)]
     expect("outputs that were made", sorted(wanted.made), sorted(lines_of(done)))
     expect("what else was printed", wanted.printed, "".join(found))
     expect("errors", wanted.errors, done.stderr.decode())
@@ -251,7 +255,8 @@ CHANGES = {
     "header_removed": Change(lambda folder: (folder / header(1)).unlink(), [((), Wanted(readers(1)))], False),
     "output_removed": Change(lambda folder: (folder / object_of(150)).unlink(), [((), Wanted(with_libraries([150])))]),
     "source_removed": Change(lambda folder: (folder / source_of(150)).unlink(), [
-        ((), Wanted(set(), 1, f"FAILED {object_of(150)}: missing input {source_of(150)}\n{STOPPED}"))], False),
+        ((), Wanted(set(), 1, f"ninja: error: '{source_of(150)}', needed by '{object_of(150)}', {NO_RULE}{STOPPED}"))],
+        False),
     "manifest_made_again": Change(template_has_one_more, [((), Wanted({"build.ninja", "out/more"}))]),
     "named_target": Change(lambda folder: touched(folder, header(0)), [
         ((library_of(200),), Wanted(readers(0) & PART)),
@@ -316,7 +321,8 @@ def record_lost_while_waiting(place: Place, jobs: str) -> None:
     said = child.communicate(timeout=programs.SECONDS)[0].decode()
     lines = said.splitlines()
     expect("status", 1, child.returncode)
-    expect("commands that ran", [], [line for line in lines if line.startswith("[")])
+    expect("labels", ["[1/1] build.ninja"], [line for line in lines if line.startswith("[")])
+    check(LACKS_RECORD in said, f"the first command isn't refused for the record: {said[:400]!r}")
     expect("lines that were printed twice", [], sorted({line for line in lines if lines.count(line) > 1}))
     check(UNREADABLE in said, f"it doesn't say why the record can't be opened: {said[-400:]!r}")
     check(said.endswith(REFUSED_RECORD), f"it doesn't end with the record's error: {said[-400:]!r}")

@@ -44,10 +44,7 @@ AGAIN = re.compile(r"Generating symbol file ")
 
 
 class Built(NamedTuple):
-    """A build: how often it ran the commands of each label, how many failed, what it printed, and what it left.
-
-    ninja's labels are also those of failed commands, plan_ninja's those of the others.
-    """
+    """A build: how often it ran the commands of each label, how many failed, what it printed, and what it left."""
 
     labels: collections.Counter[str]
     well: bool
@@ -115,7 +112,7 @@ def compare(ours: dict[str, Built], theirs: dict[str, Built]) -> None:
             raise Wrong(f"{name}: {one.failed} failed, {'succeeded' if one.well else 'failed'}, not as ninja\n{said}")
         more = sorted(one.labels - other.labels)
         less = sorted(label for label in (other.labels - one.labels).elements() if not AGAIN.match(label))
-        if more or len(less) != one.failed:
+        if more or less:
             raise Wrong(f"{name}: ran {more[:5]} besides ninja's {sum(other.labels.values())}, and not {less[:5]}")
         if one.files != other.files:
             raise Wrong(f"{name}: other files: {differing(one.files, other.files)}")

@@ -54,8 +54,8 @@ PARTS = {
 LANES = ("lanes", "shown")
 NUMBERS = (b"0\n", b"111\n", b"120\n", b"121\n")
 CRATES = ["plan_text", "plan_chunks", "plan_depfile", "plan_record", "plan_image", "plan_verify", "plan_schedule",
-          "plan_machine", "plan_history", "plan_journal", "plan_status", "plan_lanes", "plan_stamps", "plan_parse",
-          "plan_scope", "plan_graph", "plan_compile", "plan_tools"]
+          "plan_machine", "plan_history", "plan_journal", "plan_status", "plan_progress", "plan_lanes", "plan_stamps",
+          "plan_parse", "plan_scope", "plan_graph", "plan_compile", "plan_tools"]
 OWN = 3  # the status if the program has no memory for what it passes
 REPLIES, ORDERS = 13, 3  # of each image that is accepted
 DAMAGED = ("verifier/end_alone", "verifier/pool_of_one")  # and the chain of lib/chain.py

@@ -165,7 +165,7 @@ OWN = {
     "-d stats": Said(0, NO_WORK, "ninja: warning: -d stats has no effect\n"),
     "-w dupbuild=err": Said(0, NO_WORK, "ninja: warning: -w dupbuild=err has no effect\n"),
     "a -t list": refused("fatal: 'a' comes before -t; it is no word of the tool"),
-    "bad": Said(1, "FAILED bad: exit 1\n" + STOPPED),
+    "bad": Said(1, "[1/1] false\nFAILED: [code=1] bad \nfalse\n" + STOPPED),
 }
 
 
@@ -229,7 +229,7 @@ def nothing_to_do(place: Place) -> None:
     expect("first", ("[1/2] a\n[2/2] b\n", "", 0), says(place))
     expect("then", (NO_WORK, "", 0), says(place))
     (place.folder / "b").unlink()
-    expect("again", ("[2/2] b\n", "", 0), says(place))
+    expect("again", ("[1/1] b\n", "", 0), says(place))
 
 
 def labels(place: Place, *words: str) -> list[str]:
@@ -266,10 +266,11 @@ def failures(place: Place) -> None:
     place.write("a exit 3", "b exit 4", "c touch $out", ">d touch $out")
     stopped = "ninja: build stopped: cannot make progress due to previous errors.\n"
     printed, error, status = says(place, "-k", "0", "-j1")
-    expect("printed", (["FAILED a: exit 3\n", "FAILED b: exit 4\n", stopped], "", 1),
+    failed = ["FAILED: [code=3] a \n", "exit 3\n", "FAILED: [code=4] b \n", "exit 4\n", stopped]
+    expect("printed", (failed, "", 1),
            ([line for line in printed.splitlines(True) if not line.startswith("[")], error, status))
     expect("made", True, place.has("c", "d"))
-    expect("again", ("FAILED a: exit 3\n" + STOPPED, "", 1), says(place, "a"))
+    expect("again", ("[1/1] a\nFAILED: [code=3] a \nexit 3\n" + STOPPED, "", 1), says(place, "a"))
 
 
 def limited_jobs(place: Place) -> None:
@@ -488,8 +489,8 @@ def manifest_fails(place: Place) -> None:
     programs.write({"build.ninja": text}, place.folder)
     os.utime(place.folder / "build.ninja", (1, 1))
     programs.write({"in": ""}, place.folder)
-    expect("said", ("FAILED build.ninja: exit 2\n", "ninja: error: rebuilding 'build.ninja': subcommand failed\n", 1),
-           says(place))
+    expect("said", ("[1/1] exit 2\nFAILED: [code=2] build.ninja \nexit 2\n",
+                    "ninja: error: rebuilding 'build.ninja': subcommand failed\n", 1), says(place))
     expect("built", False, place.has("late"))
 
 
@@ -552,7 +553,8 @@ def read_only_folder(place: Place) -> None:
         expect("said", (NO_WORK.encode(), b"", 0), (done.stdout, done.stderr, done.returncode))
         done = place.done("c", preexec_fn=as_stranger)
         expect("status", 1, done.returncode)
-        expect("output", True, done.stdout.startswith(b"FAILED c: "))
+        said = b"[1/1] c\nFAILED: [not started] c \ntouch c\n" + STOPPED.encode()
+        expect("output", said, done.stdout)
         expect("made", False, place.has("c"))
     finally:
         place.folder.chmod(0o755)
@@ -630,7 +632,7 @@ def half_outputs_run_again(place: Place) -> None:
     """A command that was interrupted or failed after it had touched its output runs again."""
     place.write("a touch $out; exit 1")
     expect("first", 1, place.done().returncode)
-    expect("second", ("FAILED a: exit 1\n" + STOPPED, "", 1), says(place))
+    expect("second", ("[1/1] a\nFAILED: [code=1] a \ntouch a; exit 1\n" + STOPPED, "", 1), says(place))
 
 
 def hangup_is_ignored_under_nohup(place: Place) -> None:
@@ -660,10 +662,10 @@ def second_build_waits(place: Place) -> None:
 
 
 def nested_build(place: Place) -> None:
-    """A command builds in the same folder, as CMake's dashboards do."""
+    """A command builds in the same folder, as CMake's dashboards do. Its lines are the output of this command."""
     place.write("a touch $out", f"b '{place.builder}' a && touch $out", "c true")
     printed, error, status = says(place, "b")
-    expect("said", (["[1/1] a", "[1/1] b"], "", 0), (printed.splitlines(), error, status))
+    expect("said", (["[1/1] b", "[1/1] a"], "", 0), (printed.splitlines(), error, status))
     expect("then", (NO_WORK, "", 0), says(place, "a", "b"))
 
 

@@ -9,6 +9,7 @@ import functools
 import os
 import pathlib
 import pty
+import re
 import subprocess
 from collections.abc import Iterator
 from typing import Dict, List
@@ -26,6 +27,8 @@ SHOWN = {"order": ("echo a; echo b >&2; echo c; echo d >&2", b"a\nb\nc\nd\n"),
 SEQUENCES = {"colour": (RED, b"red\n", b"\x1b[1;31mred\x1b[0m\n"),
              "link": (LINK, b"link\n", b"\x1b]8;;file:a\x1b\\link\x1b]8;;\x1b\\\n"),
              "cut": (r"\033]0;title\nend", b"\nend\n", b"\x1b]0;title\nend\n")}
+# the line on a terminal, when the command starts and when it has ended
+WRITTEN_OVER = re.compile(rb"(?:\r\x1b\[K\x1b\[\?7l\[[01]/1\] label\x1b\[\?7h)+\n")
 
 
 def manifest(command: str) -> str:
@@ -67,7 +70,8 @@ def on_terminal(words: List[str], folder: pathlib.Path, variables: Dict[str, str
 
 def without_label(found: bytes) -> bytes:
     """Returns the lines of a command, without those of the program."""
-    return b"".join(line for line in found.splitlines(True) if not line.startswith(b"[1/1] "))
+    below = WRITTEN_OVER.sub(b"", found)
+    return b"".join(line for line in below.splitlines(True) if not line.startswith(b"[1/1] "))
 
 
 def compared(found: bytes, wanted: bytes) -> str:

@@ -1,0 +1,413 @@
+"""Builds trees with plan_build, and compares all that it prints with the text that plan_progress defines (BuildLines).
+
+Each line `[n/m] LABEL` comes right before the output of its command, whatever runs at the same time. If ninja is
+installed, the lines of a build after one change must be ninja's, and so must the sentence on a missing source.
+"""
+from __future__ import annotations
+
+import functools
+import os
+import pathlib
+import pty
+import re
+import shutil
+import subprocess
+import time
+from collections.abc import Iterator, Sequence
+from typing import Callable, List, NamedTuple, Tuple
+
+from lib import programs
+from lib.place import PATIENCE, expect
+from lib.suite import Case, LeftOut, Setting, check
+
+ALONE = True
+STOPPED = "ninja: build stopped: subcommand failed.\n"
+LOST_OUTPUT = "ninja: error: standard output can't be written [133 FileFault]\n"
+TICK = 0.05  # seconds: longer than the clock of files needs to move on
+LARGE = 1_000_000  # bytes of a large output
+LABEL = re.compile(rb"\[(\d+)/(\d+)\] (.*)\n")
+
+
+class Edge(NamedTuple):
+    """A build statement with a rule of its own. Its label is its first output."""
+
+    outputs: str
+    command: str
+    inputs: str = ""
+    more: str = ""  # lines of its rule
+
+    def name(self) -> str:
+        """Returns the first output."""
+        return self.outputs.split()[0]
+
+
+def write(folder: pathlib.Path, edges: Sequence[Edge]) -> None:
+    """Writes a manifest."""
+    text = ""
+    for number, edge in enumerate(edges):
+        rule = f"rule r{number}\n  command = {edge.command}\n  description = {edge.name()}\n{edge.more}"
+        text += f"{rule}build {edge.outputs}: r{number} {edge.inputs}\n"
+    programs.write({"build.ninja": text}, folder)
+
+
+def says(builder: str, folder: pathlib.Path, *words: str) -> Tuple[str, str, int]:
+    """Builds, and returns what was printed, the errors, and the status."""
+    done = programs.run([builder, *words], folder)
+    return done.stdout.decode(), done.stderr.decode(), done.returncode
+
+
+# ---- outputs come after their labels
+
+def blocks(printed: bytes, outputs: dict[str, bytes], end: bytes = b"") -> None:
+    """Checks that a text is a label for each output, in any order, with just this output after it, and then `end`."""
+    left, at, count = dict(outputs), 0, len(outputs)
+    for number in range(1, count + 1):
+        label = LABEL.match(printed, at)
+        check(label, f"no label at {at}: {printed[at:at + 200]!r}")
+        assert label
+        expect("numbers", (number, count), (int(label[1]), int(label[2])))
+        wanted = left.pop(label[3].decode(), None)
+        check(wanted is not None, f"a label that isn't expected: {label[0]!r}")
+        assert wanted is not None
+        at = label.end() + len(wanted)
+        check(printed[label.end():at] == wanted, f"after {label[0]!r}: {printed[label.end():label.end() + 200]!r}")
+    expect("after the last output", end, printed[at:])
+
+
+def parallel(count: int, jobs: str, builder: str, folder: pathlib.Path) -> None:
+    """Commands that run side by side print two lines each, the second one later."""
+    edges = [Edge(f"out{number}", f"echo one $out; sleep 0.0{number % 7}; echo two $out >&2; touch $out")
+             for number in range(count)]
+    write(folder, edges)
+    done = programs.run([builder, "-j", jobs], folder)
+    expect("status and errors", (0, b""), (done.returncode, done.stderr))
+    blocks(done.stdout, {edge.name(): f"one {edge.name()}\ntwo {edge.name()}\n".encode() for edge in edges})
+
+
+def failures_side_by_side(builder: str, folder: pathlib.Path) -> None:
+    """Commands that run side by side fail. Each failure is a block of its own."""
+    edges = [Edge(f"out{number} more{number}", f"echo one; sleep 0.0{number % 7}; echo two >&2; exit {number}")
+             for number in range(1, 61)]
+    write(folder, edges)
+    done = programs.run([builder, "-j", "8", "-k", "0"], folder)
+    expect("status and errors", (1, b""), (done.returncode, done.stderr))
+    texts = {edge.name(): f"FAILED: [code={number}] {edge.outputs} \n{edge.command}\none\ntwo\n".encode()
+             for number, edge in enumerate(edges, 1)}
+    blocks(done.stdout, texts, b"ninja: build stopped: cannot make progress due to previous errors.\n")
+
+
+def while_the_console_is_used(builder: str, folder: pathlib.Path) -> None:
+    """A label and its output wait until the command of a console edge has ended."""
+    gated = "touch begun; while ! [ -e b ]; do sleep 0.02; done; sleep 0.3; echo asked; touch $out"
+    write(folder, [Edge("a", gated, more="  pool = console\n"),
+                   Edge("b", "while ! [ -e begun ]; do sleep 0.02; done; echo text; touch $out")])
+    expect("said", ("asked\n[1/2] b\ntext\n[2/2] a\n", "", 0), says(builder, folder, "-j", "2"))
+
+
+def manifest_made_again(builder: str, folder: pathlib.Path) -> None:
+    """The run that makes the manifest and the run for the targets each count from 1."""
+    write(folder, [Edge("build.ninja", "echo text; cp new build.ninja", "new", "  generator = 1\n"), *CHAIN])
+    time.sleep(TICK)
+    (folder / "new").write_bytes((folder / "build.ninja").read_bytes())
+    expect("said", ("[1/1] build.ninja\ntext\n[1/2] a\ntext\n[2/2] b\n", "", 0), says(builder, folder, "b"))
+
+
+def large(builder: str, folder: pathlib.Path) -> None:
+    """Twenty commands side by side print a million bytes each, without a line feed at the end."""
+    edges = [Edge(f"out{number}", f"yes $out | head -c {LARGE}; touch $out") for number in range(20)]
+    write(folder, edges)
+    done = programs.run([builder, "-j", "8"], folder)
+    expect("status and errors", (0, b""), (done.returncode, done.stderr))
+    texts = {edge.name(): f"{edge.name()}\n".encode() for edge in edges}
+    whole = {name: (text * (LARGE // len(text) + 1))[:LARGE] for name, text in texts.items()}
+    blocks(done.stdout, {name: text if text.endswith(b"\n") else text + b"\n" for name, text in whole.items()})
+
+
+# ---- texts, word for word
+
+class Text(NamedTuple):
+    """A build: its edges, the words, what must be printed, and the status. Files src and in are there."""
+
+    edges: Sequence[Edge]
+    printed: str
+    status: int = 0
+    words: str = "-j1"
+
+
+BOTH = "echo a; echo b >&2; echo c; printf d >&2"
+CHAIN = (Edge("a", "echo text; touch $out"), Edge("b", "touch $out", "a"))
+FAILING = (Edge("a also", "echo text; exit 3"),)
+TEXTS = {
+    "both streams in their order": Text((Edge("a", f"{BOTH}; touch $out"), *CHAIN[1:]),
+                                        "[1/2] a\na\nb\nc\nd\n[2/2] b\n"),
+    "a blank line": Text((Edge("a", "echo; touch $out"), *CHAIN[1:]), "[1/2] a\n\n[2/2] b\n"),
+    "no output": Text((Edge("a", "touch $out"), *CHAIN[1:]), "[1/2] a\n[2/2] b\n"),
+    "an output that looks like a label": Text((Edge("a", "echo '[7/9] x'; touch $out"), *CHAIN[1:]),
+                                              "[1/2] a\n[7/9] x\n[2/2] b\n"),
+    "no description": Text((Edge("a", "touch $out", more="  description =\n"),), "[1/1] touch a\n"),
+    "console": Text((Edge("a", "echo text; touch $out", more="  pool = console\n"),), "text\n[1/1] a\n"),
+    "failure": Text(FAILING, f"[1/1] a\nFAILED: [code=3] a also \necho text; exit 3\ntext\n{STOPPED}", 1),
+    "failure without a line feed": Text((Edge("a", "printf text; exit 1"),), "[1/1] a\nFAILED: [code=1] a \n"
+                                        f"printf text; exit 1\ntext\n{STOPPED}", 1),
+    "failure without an output": Text((Edge("a", "exit 255"),),
+                                      f"[1/1] a\nFAILED: [code=255] a \nexit 255\n{STOPPED}", 1),
+    "implicit outputs": Text((Edge("a | b c", "exit 1"),), f"[1/1] a\nFAILED: [code=1] a b c \nexit 1\n{STOPPED}", 1),
+    "signal": Text((Edge("a", "echo text; kill -9 $$$$"),),
+                   f"[1/1] a\nFAILED: [signal] a \necho text; kill -9 $$\ntext\n{STOPPED}", 1),
+    "malformed depfile": Text((Edge("a", "echo text; echo a > d; touch $out", more="  depfile = d\n"),),
+                              "[1/1] a\nFAILED: [depfile malformed 90 at 0] a \necho text; echo a > d; touch a\ntext\n"
+                              f"{STOPPED}", 1),
+    "one edge skipped": Text((Edge("a", "exit 1"), *CHAIN[1:]),
+                             f"[1/2] a\nFAILED: [code=1] a \nexit 1\n1 skipped\n{STOPPED}", 1),
+    "one edge not started": Text((Edge("a", "exit 1"), Edge("b", "touch $out")),
+                                 f"[1/2] a\nFAILED: [code=1] a \nexit 1\n1 not started\n{STOPPED}", 1),
+    "one that needs an edge not started": Text((Edge("a", "exit 1"), Edge("b", "touch $out", "c"), Edge("c", "true")),
+                                               "[1/3] a\nFAILED: [code=1] a \nexit 1\n1 skipped, 1 not started\n"
+                                               f"{STOPPED}", 1),
+    "skipped with -k 2": Text((Edge("a", "exit 1"), Edge("b", "touch $out"), Edge("c", "touch $out", "a")),
+                              "[1/3] a\nFAILED: [code=1] a \nexit 1\n[2/3] b\n1 skipped\n"
+                              "ninja: build stopped: cannot make progress due to previous errors.\n", 1, "-j1 -k2"),
+    "two failures with -k 2": Text((Edge("a", "exit 1"), Edge("b", "exit 2"), Edge("c", "touch $out", "b")),
+                                   "[1/3] a\nFAILED: [code=1] a \nexit 1\n[2/3] b\nFAILED: [code=2] b \nexit 2\n"
+                                   "1 skipped\nninja: build stopped: subcommands failed.\n", 1, "-j1 -k2"),
+    "-v": Text((Edge("a", f"{BOTH}; touch $out"), *CHAIN[1:]),
+               f"[1/2] {BOTH}; touch a\na\nb\nc\nd\n[2/2] touch b\n", words="-j1 -v"),
+    "-v, failure": Text(FAILING, "[1/1] echo text; exit 3\nFAILED: [code=3] a also \necho text; exit 3\ntext\n"
+                        f"{STOPPED}", 1, "-v"),
+    "-n": Text(CHAIN, "[1/2] a\n[2/2] b\n", words="-n"),
+    "-n -v": Text(CHAIN, "[1/2] echo text; touch a\n[2/2] touch b\n", words="-n -v"),
+    "--quiet": Text(CHAIN, "", words="--quiet"),
+    "--quiet, failure": Text((*CHAIN, Edge("c", "echo text; exit 3", "b")),
+                             f"FAILED: [code=3] c \necho text; exit 3\ntext\n{STOPPED}", 1, "--quiet"),
+    "--quiet, skipped": Text((Edge("a", "exit 1"), *CHAIN[1:]),
+                             f"FAILED: [code=1] a \nexit 1\n1 skipped\n{STOPPED}", 1, "--quiet"),
+    "-v --quiet": Text(CHAIN, "", words="-v --quiet"),
+    "--quiet -v": Text(CHAIN, "[1/2] echo text; touch a\ntext\n[2/2] touch b\n", words="-j1 --quiet -v"),
+}
+
+
+def text_is(text: Text, builder: str, folder: pathlib.Path) -> None:
+    """A build prints just this text."""
+    write(folder, text.edges)
+    expect("printed, errors, status", (text.printed, "", text.status), says(builder, folder, *text.words.split()))
+
+
+# ---- numbers
+
+def failure_among_many(builder: str, folder: pathlib.Path) -> None:
+    """One of 200 commands fails while three others run. 100 edges need it, and 96 need another one."""
+    begun = "while ! [ -e begun0 -a -e begun1 -a -e begun2 ]; do sleep 0.02; done"
+    gated = "while ! [ -e failed ]; do sleep 0.02; done; sleep 0.5; echo text; touch $out"
+    edges = [Edge("bad also", f"{begun}; touch failed; echo first; echo second >&2; exit 3"),
+             *(Edge(f"good{number}", f"touch begun{number}; {gated}") for number in range(3)),
+             *(Edge(f"needs_bad{number}", "touch $out", "bad") for number in range(100)),
+             *(Edge(f"needs_good{number}", "touch $out", f"good{number % 3}") for number in range(96))]
+    write(folder, edges)
+    printed, error, status = says(builder, folder, "-j", "4")
+    lines = printed.splitlines()
+    expect("errors and status", ("", 1), (error, status))
+    expect("lines of the failure", ["[1/200] bad", "FAILED: [code=3] bad also ", edges[0].command, "first", "second"],
+           lines[:5])
+    expect("labels after it", ["[2/200] good", "text", "[3/200] good", "text", "[4/200] good", "text"],
+           [line.rstrip("012") if line.startswith("[") else line for line in lines[5:11]])
+    expect("the end", ["100 skipped, 96 not started", STOPPED.strip()], lines[11:])
+
+
+def tree() -> List[Edge]:
+    """Returns fifty edges: objects, libraries of eight objects, and two programs of three libraries."""
+    objects = [Edge(f"o{number}", "sleep 0.3; touch $out", f"s{number}") for number in range(42)]
+    names = [edge.name() for edge in objects]
+    libraries = [Edge(f"l{number}", "touch $out", " ".join(names[number * 7:number * 7 + 7])) for number in range(6)]
+    return [*objects, *libraries, Edge("p0", "touch $out", "l0 l1 l2"), Edge("p1", "touch $out", "l3 l4 l5")]
+
+
+def one_change(jobs: str, builder: str, folder: pathlib.Path) -> None:
+    """After one source is touched, m is the number of commands that run, as with ninja.
+
+    Only at -j 1 the first command runs before the other program turns out to be clean.
+    """
+    programs.write({f"s{number}": "" for number in range(42)}, folder)
+    write(folder, tree())
+    expect("status of the first build", 0, says(builder, folder, "-j", "64")[2])
+    time.sleep(TICK)
+    (folder / "s10").touch()
+    first = "[1/4]" if jobs == "1" else "[1/3]"
+    expect("said", (f"{first} o10\n[2/3] l1\n[3/3] p0\n", "", 0), says(builder, folder, "-j", jobs))
+
+
+def clean_after_a_restat(builder: str, folder: pathlib.Path) -> None:
+    """A command leaves its output as it was. The edges that need it turn out to be clean, and m shrinks."""
+    edges = [Edge("a", "test -e a || touch a", "src", "  restat = 1\n"), Edge("b", "touch $out", "a"),
+             Edge("c", "touch $out", "b"), Edge("d", "touch $out", "in || c")]
+    programs.write({"src": "", "in": ""}, folder)
+    write(folder, edges)
+    expect("first", ("[1/4] a\n[2/4] b\n[3/4] c\n[4/4] d\n", "", 0), says(builder, folder))
+    time.sleep(TICK)
+    for name in ("src", "in"):
+        (folder / name).touch()
+    expect("second", ("[1/4] a\n[2/2] d\n", "", 0), says(builder, folder, "-j", "1"))
+
+
+# ---- missing sources
+
+MISSING = {"of a command": "build out: touch nosuch\n",
+           "of a phony": "build out: phony nosuch\n",
+           "after an order": "build out: touch || nosuch\n"}
+SENTENCE = "ninja: error: 'nosuch', needed by 'out', missing and no known rule to make it\n"
+
+
+def missing(build: str, builder: str, folder: pathlib.Path) -> None:
+    """A missing source has ninja's sentence, without a label. It is printed on standard output."""
+    programs.write({"build.ninja": f"rule touch\n  command = touch $out\n{build}"}, folder)
+    expect("said", (SENTENCE + STOPPED, "", 1), says(builder, folder))
+    ninja = shutil.which("ninja")
+    if ninja:
+        expect("ninja said", ("", SENTENCE, 1), says(ninja, folder))
+
+
+def missing_with_others(builder: str, folder: pathlib.Path) -> None:
+    """With -k 0 the other edges are built, and those that need the failed one are counted."""
+    write(folder, [Edge("out", "touch $out", "nosuch"), Edge("a", "touch $out", "out"), Edge("b", "touch $out", "a")])
+    stopped = "ninja: build stopped: cannot make progress due to previous errors.\n"
+    expect("said", (f"{SENTENCE}2 skipped\n{stopped}", "", 1), says(builder, folder, "-k", "0"))
+
+
+# ---- standard output that can't be written
+
+def lost(redirection: str, builder: str, folder: pathlib.Path) -> None:
+    """Everything is built, but the status is 1."""
+    write(folder, CHAIN)
+    done = subprocess.run(["sh", "-c", f'"$0" {redirection}', builder], cwd=folder, stdin=subprocess.DEVNULL,
+                          stderr=subprocess.PIPE, timeout=programs.SECONDS)
+    expect("said", (LOST_OUTPUT.encode(), 1), (done.stderr, done.returncode))
+    check((folder / "b").exists(), "b isn't built")
+
+
+# ---- ninja
+
+def ninja_counts(folder: pathlib.Path) -> None:
+    """ninja prints the lines of `one_change` too."""
+    ninja = shutil.which("ninja")
+    if not ninja:
+        raise LeftOut("ninja is missing")
+    one_change("4", ninja, folder)
+
+
+# ---- on a terminal
+
+class Screen:
+    """A terminal that knows what the text of a build uses: its lines, without the empty ones at its end."""
+
+    CODES = re.compile(rb"\r|\n|\x1b\[K|\x1b\[\?7[lh]|[^\r\n\x1b]+")
+
+    def __init__(self, shown: bytes, width: int = 80) -> None:
+        self.rows, self.row, self.column, self.wraps, self.width = [b""], 0, 0, True, width
+        at = 0
+        for code in self.CODES.finditer(shown):
+            check(code.start() == at, f"the terminal doesn't know {shown[at:at + 20]!r}")
+            at = code.end()
+            self.take(code[0])
+        check(at == len(shown), f"the terminal doesn't know {shown[at:at + 20]!r}")
+        expect("wraps in the end", True, self.wraps)
+
+    def take(self, code: bytes) -> None:
+        """Shows some bytes."""
+        if code == b"\r":
+            self.column = 0
+        elif code == b"\n":
+            self.row += 1
+            self.rows += [b""] * (self.row == len(self.rows))
+        elif code == b"\x1b[K":
+            self.rows[self.row] = self.rows[self.row][:self.column]
+        elif code.startswith(b"\x1b"):
+            self.wraps = code.endswith(b"h")
+        else:
+            for byte in code:
+                self.put(byte)
+
+    def put(self, byte: int) -> None:
+        """Shows a byte where the cursor is. Without wrapping the last column is written over."""
+        if self.column == self.width:
+            if self.wraps:
+                self.take(b"\r")
+                self.take(b"\n")
+            else:
+                self.column -= 1
+        row = self.rows[self.row].ljust(self.column)
+        self.rows[self.row] = row[:self.column] + bytes([byte]) + row[self.column + 1:]
+        self.column += 1
+
+
+def on_terminal(builder: str, folder: pathlib.Path, kind: str, *words: str) -> tuple[bytes, int]:
+    """Builds with standard output on a terminal of this kind, and returns what was written to it, and the status."""
+    terminal, other = pty.openpty()
+    done = subprocess.Popen([builder, *words], cwd=folder, stdin=subprocess.DEVNULL, stdout=other, stderr=other,
+                            env={"PATH": "/usr/bin:/bin", "TERM": kind})
+    os.close(other)
+    shown = b""
+    while True:
+        try:
+            some = os.read(terminal, 65536)
+        except OSError:  # the other end is closed
+            some = b""
+        if not some:
+            break
+        shown += some
+    os.close(terminal)
+    return shown, done.wait(timeout=PATIENCE)
+
+
+LONG = "x" * 100
+FIRST = Edge("a", "touch $out")
+SHOWN = (  # each edge needs the one before, so that they end in their order
+    ("nothing printed", [FIRST, Edge(f"b{LONG}", "touch $out", "a")], (), 0, [f"[2/2] b{LONG}"[:80]]),
+    ("an output", [FIRST, Edge("b", "echo warning; touch $out", "a"), Edge("c", "touch $out", "b")], (), 0,
+     ["[2/3] b", "warning", "[3/3] c"]),
+    ("an output at the end", [FIRST, Edge("b", "printf end; touch $out", "a")], (), 0, ["[2/2] b", "end"]),
+    ("a failure", [FIRST, Edge("b", "echo bad; exit 3", "a"), Edge("c", "touch $out", "b")], (), 1,
+     ["[2/3] b", "FAILED: [code=3] b ", "echo bad; exit 3", "bad", "1 skipped", STOPPED.strip()]),
+    ("commands", [FIRST], ("-v",), 0, ["[1/1] touch a"]),
+    ("only failures", [Edge("a", "echo loud; touch $out"), Edge("b", "false", "a")], ("--quiet",), 1,
+     ["FAILED: [code=1] b ", "false", STOPPED.strip()]),
+)
+
+
+def screen_is(edges: Sequence[Edge], words: Sequence[str], status: int, rows: Sequence[str], builder: str,
+              folder: pathlib.Path) -> None:
+    """A line is written over in place, and all other text has lines of its own."""
+    write(folder, edges)
+    shown, ended = on_terminal(builder, folder, "xterm", "-j", "1", *words)
+    expect("status", status, ended)
+    expect("screen", [row.encode() for row in rows] + [b""], Screen(shown).rows)
+    if not words:
+        check(f"[0/{len(edges)}] a".encode() in shown, f"no line for a command that starts: {shown!r}")
+
+
+def dumb_terminal(builder: str, folder: pathlib.Path) -> None:
+    """On a terminal without escape sequences each command has a line."""
+    write(folder, [FIRST, Edge("b", "touch $out", "a")])
+    expect("shown", (b"[1/2] a\r\n[2/2] b\r\n", 0), on_terminal(builder, folder, "dumb", "-j", "1"))
+
+
+def cases(setting: Setting) -> Iterator[Case]:
+    """Yields builds whose commands run side by side, then texts, and numbers."""
+    builder = programs.front(setting.program)
+    for count, jobs in ((60, "8"), (300, "64"), (60, "2")):
+        yield Case(f"{count} commands at -j {jobs}", functools.partial(parallel, count, jobs, builder))
+    for name, text in TEXTS.items():
+        yield Case(name, functools.partial(text_is, text, builder))
+    for jobs in ("1", "2", "4"):
+        yield Case(f"one change at -j {jobs}", functools.partial(one_change, jobs, builder))
+    for kind, build in MISSING.items():
+        yield Case(f"missing source {kind}", functools.partial(missing, build, builder))
+    for redirection in (">&-", ">/dev/full"):
+        yield Case(f"output {redirection}", functools.partial(lost, redirection, builder))
+    for name, edges, words, status, rows in SHOWN:
+        yield Case(f"terminal {name}", functools.partial(screen_is, edges, words, status, rows, builder))
+    yield Case("dumb terminal", functools.partial(dumb_terminal, builder))
+    yield Case("ninja's counts", ninja_counts)
+    trials: Tuple[Callable[[str, pathlib.Path], None], ...] = (
+        failures_side_by_side, while_the_console_is_used, manifest_made_again, large, failure_among_many,
+        clean_after_a_restat, missing_with_others)
+    for trial in trials:
+        yield Case(trial.__name__.replace("_", " "), functools.partial(trial, builder))
