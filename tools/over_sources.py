@@ -5,7 +5,8 @@
 they stand, so that a crate and those above it can be worked on side by side; what they call of each other is checked
 too, once. It gives no verdict, and the gate keeps nothing of it. What was checked is kept in a folder of the temporary
 folder, by crate; with --holes it goes past open goals and prints each, with --fix-imports it mends `use` lines, with
---test it checks tests too, as those of the crates plan_tests_*.
+--test it checks tests too, as those of the crates plan_tests_*. Crates whose rlib is in the folder of --proved count as
+proved, and nothing of them is checked again: copy crates/NAME/out/rlib/NAME.rlib there once `rt ci` has made it.
 """
 from __future__ import annotations
 
@@ -37,7 +38,7 @@ def below(crate: str, listed: dict[str, list[str]], found: list[str]) -> list[st
     return found
 
 
-def words(crate: str, listed: dict[str, list[str]]) -> list[str]:
+def words(crate: str, listed: dict[str, list[str]], proved: pathlib.Path | None) -> list[str]:
     """The checker's command line, without what is to be checked."""
     own = below(crate, listed, [])
     kit = sorted({"core", "std"} | {name for it in [crate, *own] for name in listed[it] if name not in listed})
@@ -45,7 +46,12 @@ def words(crate: str, listed: dict[str, list[str]]) -> list[str]:
     said = [str(KIT / "bin" / "rattle"), "check", "--crate-name", crate, root, "-L", f"dependency={LIBRARIES}"]
     for name in kit:
         said += ["--extern", f"{name}={LIBRARIES / name}.rlib"]
+    if proved:
+        said += ["-L", f"dependency={proved}"]
     for name in own:
+        if proved and (proved / f"{name}.rlib").exists():
+            said += ["--extern", f"{name}={proved / name}.rlib"]
+            continue
         source = ROOT / "crates" / name / "src" / "lib.rt"
         said += ["--lib", f"{name}:{','.join(['core', 'std', *listed[name]])}={source}"]
     said += ["--antt-project", str(KIT / "rattle" / "logic" / "antt-project.json")]
@@ -61,11 +67,13 @@ def main() -> None:
     parser.add_argument("--fix-imports", action="store_true")
     parser.add_argument("--test", action="store_true", help="with the crate's tests")
     parser.add_argument("--jobs", type=int, default=1)
+    parser.add_argument("--proved", type=lambda path: pathlib.Path(path).resolve(),
+                        help="a folder with rlibs of crates that are proved")
     asked = parser.parse_args()
     listed = crates()
     if asked.crate not in listed:
         sys.exit(f"no crate {asked.crate}, of: {' '.join(listed)}")
-    said = words(asked.crate, listed)
+    said = words(asked.crate, listed, asked.proved)
     said += ["--incremental", str(pathlib.Path(tempfile.gettempdir()) / f"over_sources-{asked.crate}")]
     said += ["--jobs", str(asked.jobs)]
     said += ["--allow-holes"] * asked.holes + ["--fix-imports"] * asked.fix_imports + ["--test"] * asked.test
