@@ -22,7 +22,7 @@ help:
 	@echo "  make rows      run the rows, or some of them (NAMES='tab_* scopes/*'); half a minute"
 	@echo "  make tests     run all tests of the program; 4 to 6 minutes"
 	@echo "  make check     run the whole gate: proofs, must-fail edits, tests"
-	@echo "  make edits     try the must-fail edits that the gate leaves out (CRATES=plan_text); 5 to 40 minutes a crate"
+	@echo "  make edits     try the must-fail edits, also those that the gate leaves out (CRATES=plan_text); ten seconds each"
 	@echo "  make calls     refuse each allocation of the lower crates' calls, and run damaged images; two minutes"
 	@echo "  make real      compare commands and builds of CMake's and Meson's trees with ninja's; more than an hour"
 	@echo "  make bench     time the program, ninja and make; some minutes"
@@ -89,23 +89,25 @@ tests: built
 # counts on three times as much, and leaves processors idle.
 GATE_JOBS = $(shell awk -v n=$$(nproc) '/^MemAvailable/ {m = int($$2 / 4000000); print m < 1 ? 1 : m < n ? m : n}' /proc/meminfo)
 
-# The gate: the documents, then every proof, test and must-fail edit, the bodies that tests refuse, refused allocations,
-# and then the program.
+# The gate: the documents, then every proof and test, the must-fail edits, the bodies that tests refuse, refused
+# allocations, and then the program.
 .PHONY: check
 check: kit
 	python3 tools/manifest_names.py
 	python3 tools/edits.py --fit $(CRATES)
 	RT_JOBS=$(GATE_JOBS) rt ci | tee gate.log
 	python3 tools/edit_log.py gate.log
+	python3 tools/edits.py --gate --jobs $(GATE_JOBS) $(CRATES)
 	python3 tools/wrong_bodies.py
 	$(MAKE) calls
 	$(MAKE) tests
 
-# The must-fail edits of some crates that the gate leaves out.
+# The must-fail edits of some crates, also those that the gate leaves out. They are tried over proved crates: `make check`
+# first, or `rt ci` with no names.
 CRATES = $(notdir $(patsubst %/,%,$(wildcard crates/*/)))
 .PHONY: edits
 edits: kit
-	python3 tools/edits.py $(CRATES)
+	python3 tools/edits.py --jobs $(GATE_JOBS) $(CRATES)
 	python3 tools/wrong_bodies.py $(CRATES)
 
 # Calls the lower crates with refused memory, and runs damaged images, in a program without proofs.

@@ -15,8 +15,8 @@ import call_graph
 ROOT = pathlib.Path(__file__).resolve().parent.parent
 WIDTH = 120
 CODE = ("crates/*/src/**/*.rt", "crates/*/specs/**/*.antt", "crates/*/proofs/**/*.antt", "crates/*/must-fail/*.edit",
-        "tests/**/*.py", "tests/edits/**/*.edit", "tests/lib/*.c", "tools/*.py", "bench/*.py", "Makefile",
-        "crates.txt")
+        "tests/**/*.py", "tests/must_fail/**/*.edit", "tests/edits/**/*.edit", "tests/lib/*.c", "tools/*.py",
+        "bench/*.py", "Makefile", "crates.txt")
 NARROW = ("*.md", "docs/**/*.md", "docs/**/*.trace", "tests/**/*.md", "tests/*.py", "tests/lib/*.py",
           "tests/suites/*.py", "tests/real/*.py", "tools/*.py", "tools/*.md", "bench/*.py", "bench/*.md", "crates/*.md")
 FOLDERS = ("crates", "tests", "tools", "bench", "examples")

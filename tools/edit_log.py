@@ -1,5 +1,5 @@
 #!/usr/bin/env python3
-"""Checks in the gate's log why each must-fail edit was refused.
+"""Checks in the log of `rt ci` why each must-fail edit was refused, those of the folders crates/*/must-fail.
 
 A refusal counts if the prover says that a goal of the code is not proved. If it stops in a written answer instead,
 because the answer names a value that the edit changed, the edit must give that value in a line `refused-in-answer:`.
@@ -20,9 +20,8 @@ GOAL = "it is not proved that"
 
 def explained() -> set[str]:
     """Returns the edits that give a reason, as crate/edit."""
-    gate = {f"{path.parent.parent.name}/{path.stem}": path for path in ROOT.glob("crates/*/must-fail/*.edit")}
-    other = {f"{path.parent.name}/{path.stem}": path for path in ROOT.glob("tests/edits/*/*.edit")}
-    return {name for name, path in {**gate, **other}.items() if REASON.search(path.read_text())}
+    edits = {f"{path.parent.parent.name}/{path.stem}": path for path in ROOT.glob("crates/*/must-fail/*.edit")}
+    return {name for name, path in edits.items() if REASON.search(path.read_text())}
 
 
 def weak(log: str) -> Iterator[str]:

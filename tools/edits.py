@@ -1,9 +1,15 @@
 #!/usr/bin/env python3
-"""Tries the must-fail edits that the gate leaves out, those of tests/edits: the prover has to refuse each.
+"""Tries must-fail edits: wrong bodies that the prover has to refuse.
 
-They run on a copy of the tree, crates side by side; a crate takes some minutes, and 20 to 60 seconds more for each
-edit. What `rt must-fail` says of each edit is printed; the last line is `N passed, M failed`. With --fit none is tried:
-each text that an edit replaces must stand once in its file, also of those that tools/wrong_bodies.py tries.
+Each edit is made in a copy of its crate, and the functions that it changes are checked over the proved crates below,
+those that `rt ci` left in crates/*/out; so an edit takes some ten seconds, where `rt must-fail` checks a crate whole
+before the first one. An edit is refused if the prover says that a goal is not proved. If it stops in a written answer
+instead, because the answer names a value that the edit changed, the edit has to say so in a line `refused-in-answer:`.
+A line `check: module::function` names another function that is to be checked than the changed one. If a
+definition of specs/ is changed and there is no such line, the whole crate is checked. With --gate only the
+edits of tests/must_fail are tried, and else those of tests/edits too. With --fit none is tried: each text that an edit
+replaces must stand once in its file, also of those that `rt ci` and tools/wrong_bodies.py try. The last line is
+`N passed, M failed`.
 """
 from __future__ import annotations
 
@@ -14,102 +20,191 @@ import pathlib
 import re
 import shutil
 import subprocess
+import sys
 import tempfile
 from collections.abc import Iterator, Sequence
+from typing import NamedTuple
 
-import edit_log
+import over_sources
 import tests_path  # noqa: F401: it makes lib known
 from lib import programs
 
 ROOT = pathlib.Path(__file__).resolve().parent.parent
-REFUSED = "refused, as it must be"
+GATE, OTHER = "must_fail", "edits"
+BLOCK = re.compile(r"^(?:(?:unsafe )?impl\b|(?:pub(?:\([^)]*\))? )?trait \w)[^{]*\{", re.MULTILINE)
+ITEM = re.compile(r"impl(?:<.*?>)? (?:(?P<trait>[\w:]+)(?:<[^{]*?>)? for )?(?P<type>[\w:]+)|trait (?P<name>\w+)")
+FUNCTION = re.compile(r"^(?P<indent> *)(?:pub(?:\([^)]*\))? )?(?:const |unsafe )*fn (?P<name>\w+)")
+GOAL = "it is not proved that"
+ANSWER = re.compile(r"Answers\.antt|Invariants\.antt|Proof\.antt")
 
 
-def beside(crate: str) -> list[pathlib.Path]:
-    """The edits of a crate that stand beside the gate: those of tests/edits, and those that tests refuse."""
-    places = [ROOT / "tests" / name / crate for name in ("edits", "wrong_bodies")]
-    return [edit for place in places for edit in sorted(place.glob("*.edit"))]
+class Change(NamedTuple):
+    file: str
+    old: str
+    new: str
 
 
-def misfits(crate: str) -> Iterator[str]:
-    """The texts that an edit replaces, where they don't stand once in their file."""
-    for edit in beside(crate):
-        text = old = ""
-        for line in edit.read_text().splitlines():
-            word, _, rest = line.partition(": ")
-            if word == "file":
-                text = (ROOT / "crates" / crate / rest).read_text()
-            elif word == "old":
-                old = rest
-                if text.count(old) != 1:
-                    yield f"{crate}/{edit.name}: {text.count(old)} times: {old}"
-            elif line.startswith("new:"):
-                text = text.replace(old, rest)
+class Edit(NamedTuple):
+    path: pathlib.Path
+    changes: list[Change]
+    checked: list[str]
+    reason: bool
+
+    @property
+    def crate(self) -> str:
+        return self.path.parent.name
 
 
-def look(crates: Sequence[str]) -> tuple[int, int]:
-    """How many edits of these crates there are that fit, and how many texts don't."""
-    found = [line for crate in crates for line in misfits(crate)]
+def read(path: pathlib.Path) -> Edit:
+    """Returns the edit of a file."""
+    changes, checked, reason, file, old = [], [], False, "", ""
+    for line in path.read_text().splitlines():
+        word, _, rest = line.partition(": ")
+        if word == "file":
+            file = rest
+        elif word == "old":
+            old = rest
+        elif line.startswith("new:"):
+            changes.append(Change(file, old, line[len("new: "):]))
+        elif word == "check":
+            checked.append(rest)
+        reason = reason or word == "refused-in-answer"
+    return Edit(path, changes, checked, reason)
+
+
+def edits_of(crate: str, folders: Sequence[str]) -> list[Edit]:
+    return [read(path) for name in folders for path in sorted((ROOT / "tests" / name / crate).glob("*.edit"))]
+
+
+def misfits(edit: Edit, crate: str) -> Iterator[str]:
+    """Yields the texts that an edit replaces, if they don't stand once in their file."""
+    texts: dict[str, str] = {}
+    for file, old, new in edit.changes:
+        text = texts.setdefault(file, (ROOT / "crates" / crate / file).read_text())
+        if text.count(old) != 1:
+            yield f"{crate}/{edit.path.name}: {text.count(old)} times: {old}"
+        texts[file] = text.replace(old, new)
+
+
+def fit(crates: Sequence[str]) -> tuple[int, int]:
+    """Returns how many edits of these crates there are, and how many texts of them don't fit."""
+    count, found = 0, []
+    for crate in crates:
+        own = [read(path) for path in sorted((ROOT / "crates" / crate / "must-fail").glob("*.edit"))]
+        own += edits_of(crate, (GATE, OTHER, "wrong_bodies"))
+        found += [line for edit in own for line in misfits(edit, crate)]
+        count += len(own)
     for line in found:
         print(line)
-    return sum(len(beside(crate)) for crate in crates), len(found)
+    return count, len(found)
 
 
-def lay(crate: str, home: pathlib.Path, whole: bool) -> int:
-    """Puts the edits of tests/edits where `rt must-fail` looks, beside those there or in place of them; how many."""
-    edits = home / "crates" / crate / "must-fail"
-    edits.mkdir(exist_ok=True)
-    for edit in [] if whole else sorted(edits.glob("*.edit")):
-        edit.unlink()
-    for edit in sorted((home / "tests" / "edits" / crate).glob("*.edit")):
-        shutil.copy(edit, edits / edit.name)
-    return len(list(edits.glob("*.edit")))
+def module_of(file: str) -> str:
+    """Returns the path of the module in a file of src, with `::` after it; nothing for the crate's root."""
+    parts = pathlib.PurePath(file).with_suffix("").parts[1:]
+    return "" if parts in (("lib",), ("main",)) else "::".join(parts) + "::"
 
 
-def log_of(crate: str, home: pathlib.Path, jobs: int) -> str:
-    """What `rt must-fail` prints of a crate."""
-    env = {**os.environ, "RT_JOBS": str(jobs)}
-    words = ["rt", "must-fail", crate]
-    done = subprocess.run(words, cwd=home, stdout=subprocess.PIPE, stderr=subprocess.STDOUT, env=env)
-    return done.stdout.decode(errors="replace")
+def function_at(text: str, place: int) -> str:
+    """Returns the function that a place of a file is in, with its type, as the checker names it."""
+    end = text.find("\n", place)
+    text = text if end < 0 else text[:end]
+    found = next((match for line in reversed(text.splitlines()) if (match := FUNCTION.match(line))), None)
+    if found is None:
+        return ""
+    blocks = [" ".join(match[0].split()).replace("< ", "<").replace(" >", ">") for match in BLOCK.finditer(text)]
+    item = ITEM.search(blocks[-1]) if blocks and found["indent"] else None
+    if item is None:
+        return found["name"]
+    of_trait = (item["trait"] or "").split("::")[-1]
+    return f"{item['name'] or item['type'].split('::')[-1]}{of_trait}::{found['name']}"
 
 
-def refused(log: str) -> int:
-    """How many edits were refused over a goal or for a reason that is known."""
-    weak = list(edit_log.weak(log))
-    for line in weak:
-        print(f"says too little: {line}")
-    return len(re.findall(REFUSED, log)) - len(weak)
+def apply(edit: Edit, home: pathlib.Path) -> list[str]:
+    """Makes an edit in a copy of its crate, and returns the functions that it changes."""
+    names = []
+    for file, old, new in edit.changes:
+        path = home / file
+        text = path.read_text()
+        if file.startswith("src/"):
+            names.append((module_of(file) + function_at(text, text.index(old))).rstrip(":"))
+        path.write_text(text.replace(old, new, 1))
+    return edit.checked or list(dict.fromkeys(names))
 
 
-def tried(crates: Sequence[str], home: pathlib.Path, whole: bool) -> tuple[int, int]:
-    """Tries the edits of these crates; gives how many were refused, and how many not."""
-    counts = {crate: lay(crate, home, whole) for crate in crates}
-    busy = [crate for crate in crates if counts[crate]]
-    jobs, passed = max(1, (os.cpu_count() or 1) // max(1, len(busy))), 0
-    with concurrent.futures.ThreadPoolExecutor(max(1, len(busy))) as lanes:
-        for log in lanes.map(lambda crate: log_of(crate, home, jobs), busy):
-            print(log, end="", flush=True)
-            passed += refused(log)
-    return passed, sum(counts.values()) - passed
+def verdict(edit: Edit, status: int, log: str) -> tuple[bool, str]:
+    """Returns whether an edit was refused as it must be, and what to say of it."""
+    line = next((line for line in log.splitlines() if GOAL in line), None)
+    if line is not None:
+        return True, line.strip()
+    if status == 0:
+        return False, "NOT REFUSED"
+    last = next((line for line in log.splitlines() if "error" in line or "note:" in line), log[-300:])
+    if edit.reason and ANSWER.search(log):
+        return True, "refused in an answer, for the reason that the edit gives"
+    return False, f"BAD EDIT: {last.strip()}"
+
+
+def try_one(edit: Edit, words: Sequence[str], home: pathlib.Path) -> tuple[bool, str]:
+    """Tries one edit in a copy of its crate."""
+    source = ROOT / "crates" / edit.crate
+    for part in ("src", "specs", "proofs"):
+        shutil.rmtree(home / part, ignore_errors=True)
+        if (source / part).is_dir():
+            shutil.copytree(source / part, home / part)
+    misfit = next(misfits(edit, edit.crate), None)
+    if misfit:
+        return False, f"BAD EDIT: {misfit}"
+    only = [word for name in apply(edit, home) for word in ("--only", name)]
+    done = subprocess.run([*words, *only], cwd=home, stdout=subprocess.PIPE, stderr=subprocess.STDOUT)
+    return verdict(edit, done.returncode, done.stdout.decode(errors="replace"))
+
+
+def try_all(edits: Sequence[Edit], proved: pathlib.Path, folder: pathlib.Path) -> list[bool]:
+    """Tries edits of one crate, one after another, and prints how each ended."""
+    crate, refused = edits[0].crate, []
+    home = folder / crate
+    home.mkdir()
+    words = [*over_sources.words(crate, over_sources.crates(), proved), "--incremental", str(folder / f"kept-{crate}")]
+    for edit in edits:
+        passed, said = try_one(edit, words, home)
+        print(f"{edit.path.relative_to(ROOT)}: {'refused' if passed else 'FAILED'}: {said}", flush=True)
+        refused.append(passed)
+    return refused
+
+
+def libraries(folder: pathlib.Path) -> pathlib.Path:
+    """Returns a folder with the proved libraries that `rt ci` left."""
+    proved = folder / "proved"
+    proved.mkdir()
+    for rlib in ROOT.glob("crates/*/out/rlib/*.rlib"):
+        (proved / rlib.name).symlink_to(rlib)
+    return proved
 
 
 def main() -> None:
     parser = argparse.ArgumentParser(description=__doc__, formatter_class=argparse.RawDescriptionHelpFormatter)
     parser.add_argument("crates", metavar="CRATE", nargs="+")
-    parser.add_argument("--all", action="store_true", help="also those of the crate's must-fail, which the gate tries")
+    parser.add_argument("--gate", action="store_true", help="only those of tests/must_fail")
     parser.add_argument("--fit", action="store_true", help="look whether they fit the code, and try none")
+    parser.add_argument("--jobs", type=int, default=os.cpu_count() or 1, help="checks side by side, of 1 to 3 GB")
+    parser.add_argument("--proved", type=lambda path: pathlib.Path(path).resolve(),
+                        help="a folder with the proved libraries (by default those that rt ci left)")
+    parser.add_argument("-k", dest="names", action="append", default=[], help="only edits with such a name")
     asked = parser.parse_args()
     for crate in asked.crates:
         if not (ROOT / "crates" / crate).is_dir():
             parser.error(f"no such crate: {crate}")
     if asked.fit:
-        programs.end(*look(asked.crates))
-    with tempfile.TemporaryDirectory() as folder:
-        home = pathlib.Path(folder) / "tree"
-        shutil.copytree(ROOT, home, ignore=shutil.ignore_patterns(".git"))
-        passed, failed = tried(asked.crates, home, asked.all)
-    programs.end(passed, failed)
+        programs.end(*fit(asked.crates))
+    edits = [edits_of(crate, (GATE,) if asked.gate else (GATE, OTHER)) for crate in asked.crates]
+    edits = [[edit for edit in own if not asked.names or edit.path.stem in asked.names] for own in edits]
+    with tempfile.TemporaryDirectory() as name, concurrent.futures.ThreadPoolExecutor(asked.jobs) as lanes:
+        folder = pathlib.Path(name)
+        proved = asked.proved or libraries(folder)
+        todo = sorted((own for own in edits if own), key=len, reverse=True)
+        refused = [passed for own in lanes.map(lambda own: try_all(own, proved, folder), todo) for passed in own]
+    programs.end(sum(refused), len(refused) - sum(refused))
 
 
 if __name__ == "__main__":
