@@ -3,6 +3,7 @@
 use Rattle.std.specs.Prelude.{ℕ, ◌+◌, Bool, true, false, not, ◌||◌, List, [], ◌∷◌, ◌++◌, length, Option, Some, None, Result, Ok, Err, nat_lt, if◌then◌else◌}
 use Rattle.plan_image.specs.declared.instr.Instr.{Instr}
 use Rattle.plan_image.specs.declared.instr.Instr.TheVariants as op
+use Rattle.plan_image.specs.declared.maxima.TheConstants.{MAX_BODY}
 use Rattle.plan_compile.specs.declared.fault.CompileFault.{CompileFault}
 use Rattle.plan_compile.specs.declared.fault.CompileFault.TheVariants.{Limit}
 use Rattle.plan_compile.specs.declared.baseline.Baseline.{Baseline}
@@ -236,4 +237,4 @@ code_of (Alone outputs) = alone_code outputs
 
 -- the code, unless it has more places than a body of an image may have
 abbrev pub emitted : List Instr → Result (List Instr) CompileFault
-emitted is = if nat_lt 65536 (length is) then Err Limit else Ok is
+emitted is = if nat_lt MAX_BODY (length is) then Err Limit else Ok is

@@ -11,7 +11,6 @@ pub mod Numbering
 pub mod BodyKeys
 pub mod Names
 pub mod EdgeNumbers
-pub mod Keys
 pub mod Images
 pub mod Faithful
 pub mod OutputTable

@@ -4,6 +4,7 @@ use Rattle.std.specs.List.{list_any}
 use Rattle.plan_scope.specs.declared.manifest.Manifest.{Manifest}
 use Rattle.plan_graph.specs.declared.graph_data.Graph.{Graph}
 use Rattle.plan_graph.specs.Graph.{IsGraph}
+use Rattle.plan_image.specs.declared.maxima.TheConstants.{MAX_BODY, MAX_FILES, MAX_SLOTS}
 use Rattle.plan_image.specs.declared.instr.Instr.{Instr}
 use Rattle.plan_image.specs.Spelling.{HasSpelling, IsWithinLimits}
 use Rattle.plan_compile.specs.declared.baseline.OutOfDateRule.{OutOfDateRule}
@@ -17,7 +18,7 @@ use Rattle.plan_compile.specs.Slots.{slot_count}
 -- than an image may have.
 abbrev pub IsRefused : OutOfDateRule → Manifest → Graph → CompileFault → Type 0
 IsRefused rule m g Limit = IsWithinLimits (compiled rule m g) → ⊥
-IsRefused rule m g Memory = length g.files ≤ 4194304
+IsRefused rule m g Memory = length g.files ≤ MAX_FILES
 
 -- the image of a manifest that has a graph has a spelling, unless it exceeds a limit
 abbrev pub ImageIsSpelled : Type 0
@@ -25,7 +26,7 @@ ImageIsSpelled = (rule : OutOfDateRule) (m : Manifest) (g : Graph) → IsGraph m
 
 -- more places than a body may have
 abbrev pub is_too_long : List Instr → Bool
-is_too_long is = nat_lt 65536 (length is)
+is_too_long is = nat_lt MAX_BODY (length is)
 
 -- codes are refused only for the length of one of them
 abbrev pub RefusesCodes : CompileFault → List (List Instr) → Type 0
@@ -35,5 +36,5 @@ RefusesCodes Memory codes = Unit {0}
 -- edges are refused for the length of a code, or for too many slots, which are counted before memory is
 -- requested
 abbrev pub RefusesEdges : CompileFault → List Build → List (List Instr) → Type 0
-RefusesEdges Limit xs codes = (16777216 < slot_count xs) ⊎ (list_any is_too_long codes ≡ true)
-RefusesEdges Memory xs codes = slot_count xs ≤ 16777216
+RefusesEdges Limit xs codes = (MAX_SLOTS < slot_count xs) ⊎ (list_any is_too_long codes ≡ true)
+RefusesEdges Memory xs codes = slot_count xs ≤ MAX_SLOTS

@@ -47,6 +47,7 @@ impl Model for BodyTable {
 impl BodyTable {
     ghost use Rattle.std.specs.Prelude.{◌≡◌, ◌↔◌, ◌≤◌, ◌+◌, [], IfOk, IsTrue, length, OnOk, slice_get, Some};
     ghost use Rattle.plan_image.specs.Bodies.{body_of};
+    ghost use Rattle.plan_graph.specs.Graph.{max_edges};
     ghost use Rattle.plan_compile.specs.BodyKeys.{same_body};
     ghost use Rattle.plan_compile.specs.Numbering.{number, with_item};
 
@@ -73,7 +74,7 @@ impl BodyTable {
 
     /// Appends the body of a code unless it is in the table, and returns its number.
     pub(crate) fn put(&mut self, alloc: Global, code: &Code) -> Result<u32, Memory>
-        requires { length self.old ≤ 1048576 }
+        requires { length self.old ≤ max_edges }
         ensures bodies { OnOk result (self.new ≡ with_item same_body self.old (body_of code.now)) }
         ensures number { IfOk result (λ n. n ≡ number same_body (body_of code.now) self.new) }
         ensures few { OnOk result (length self.new ≤ length self.old + 1) }

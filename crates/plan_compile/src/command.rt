@@ -1,6 +1,7 @@
 //! Generates the code of a command edge.
 
 ghost use Rattle.std.specs.Prelude.{◌≡◌, ◌≤◌, ◌^◌, true, false, ◌++◌, ◌+◌, ◌∷◌, [], length, nat_lt, not, OnOk};
+ghost use Rattle.plan_image.specs.declared.maxima.TheConstants.{MAX_BODY};
 ghost use Rattle.plan_compile.specs.Emit.{after_code, rerun_flag_code, clean_code, clean_len, command_code, compare_code, compares_basis, deps_code, dirty_code, dirty_place, front, holders, age_test_code, same_command_code, known_place, oldest_code, other_code, pass_code, ready_code, ready_len, from_entry_code, run_code, same_code, same_place, stat_code, under_code, before_sweep_code};
 ghost use Rattle.plan_image.specs.declared.instr.Instr.TheVariants as op;
 
@@ -155,7 +156,7 @@ fn push_dirty(code: &mut Code, layout: &CommandLayout) -> Result<(), AllocError>
 
 /// Returns the number of instructions for the least stamp of the outputs.
 fn oldest_len(outputs: &[Output]) -> u32
-    requires few { length outputs.now ≤ 2 ^ 16 }
+    requires few { length outputs.now ≤ MAX_BODY }
     ensures len { result ≡ length (oldest_code outputs.now) }
     ensures short { result ≤ 2 ^ 18 }
 {
@@ -165,7 +166,7 @@ fn oldest_len(outputs: &[Output]) -> u32
 
 /// Returns the number of instructions that store the flags of a clean edge.
 fn clean_len(layout: &CommandLayout) -> u32
-    requires few { length layout.now.outputs ≤ 2 ^ 16 }
+    requires few { length layout.now.outputs ≤ MAX_BODY }
     ensures len { result ≡ Rattle.plan_compile.specs.Emit.clean_len layout.now }
     ensures short { result ≤ 2 ^ 18 }
 {
@@ -181,8 +182,8 @@ fn clean_len(layout: &CommandLayout) -> u32
 
 /// Returns the number of instructions for the rerun flag.
 fn rerun_flag_len(layout: &CommandLayout, looks: bool) -> u32
-    requires few { length layout.now.outputs ≤ 2 ^ 16 }
-    requires few_flags { length layout.now.flags ≤ 2 ^ 16 }
+    requires few { length layout.now.outputs ≤ MAX_BODY }
+    requires few_flags { length layout.now.flags ≤ MAX_BODY }
     ensures len { result ≡ length (rerun_flag_code looks layout.now.outputs layout.now.flags) }
     ensures short { result ≤ 2 ^ 19 }
 {
@@ -198,8 +199,8 @@ fn rerun_flag_len(layout: &CommandLayout, looks: bool) -> u32
 
 /// Returns the number of instructions that prepare the sweep if a baseline is on the stack above the paths.
 fn under_len(layout: &CommandLayout, looks: bool) -> u32
-    requires few { length layout.now.outputs ≤ 2 ^ 16 }
-    requires few_flags { length layout.now.flags ≤ 2 ^ 16 }
+    requires few { length layout.now.outputs ≤ MAX_BODY }
+    requires few_flags { length layout.now.flags ≤ MAX_BODY }
     ensures len { result ≡ length (under_code looks layout.now []) }
     ensures short { result ≤ 2 ^ 19 + 4 }
 {
@@ -208,8 +209,8 @@ fn under_len(layout: &CommandLayout, looks: bool) -> u32
 
 /// Returns the number of instructions that prepare the sweep.
 fn ready_len(layout: &CommandLayout) -> u32
-    requires few { length layout.now.outputs ≤ 2 ^ 16 }
-    requires few_flags { length layout.now.flags ≤ 2 ^ 16 }
+    requires few { length layout.now.outputs ≤ MAX_BODY }
+    requires few_flags { length layout.now.flags ≤ MAX_BODY }
     ensures len { result ≡ Rattle.plan_compile.specs.Emit.ready_len layout.now }
     ensures short { result ≤ 2 ^ 20 }
 {
@@ -258,7 +259,7 @@ fn push_clean_exit(code: &mut Code, layout: &CommandLayout) -> Result<(), AllocE
 /// Appends code that sweeps, compares, and ends if the edge is clean. The code begins at place `at`.
 fn push_age_test(code: &mut Code, layout: &CommandLayout, at: u32) -> Result<(), AllocError>
     requires place { at ≤ 2 ^ 25 }
-    requires few { length layout.now.outputs ≤ 2 ^ 16 }
+    requires few { length layout.now.outputs ≤ MAX_BODY }
     ensures { OnOk result (code.new ≡ code.old ++ age_test_code layout.now at) }
 {
     let clean = clean_len(layout);
@@ -305,8 +306,8 @@ fn push_ready(code: &mut Code, layout: &CommandLayout) -> Result<(), AllocError>
 /// Appends code that prepares the sweep, sweeps and compares. The code begins at place `at`.
 fn push_same_command(code: &mut Code, layout: &CommandLayout, at: u32) -> Result<(), AllocError>
     requires place { at ≤ 2 ^ 24 }
-    requires few { length layout.now.outputs ≤ 2 ^ 16 }
-    requires few_flags { length layout.now.flags ≤ 2 ^ 16 }
+    requires few { length layout.now.outputs ≤ MAX_BODY }
+    requires few_flags { length layout.now.flags ≤ MAX_BODY }
     ensures { OnOk result (code.new ≡ code.old ++ same_command_code layout.now at) }
 {
     let age_test = at + ready_len(layout);
@@ -317,8 +318,8 @@ fn push_same_command(code: &mut Code, layout: &CommandLayout, at: u32) -> Result
 /// Returns the place of the dirty code, if the code that prepares the sweep is at place `at`.
 fn dirty_place(layout: &CommandLayout, at: u32) -> u32
     requires place { at ≤ 2 ^ 24 }
-    requires few { length layout.now.outputs ≤ 2 ^ 16 }
-    requires few_flags { length layout.now.flags ≤ 2 ^ 16 }
+    requires few { length layout.now.outputs ≤ MAX_BODY }
+    requires few_flags { length layout.now.flags ≤ MAX_BODY }
     ensures { result ≡ Rattle.plan_compile.specs.Emit.dirty_place layout.now at }
 {
     at + ready_len(layout) + 6 + clean_len(layout)
@@ -328,8 +329,8 @@ fn dirty_place(layout: &CommandLayout, at: u32) -> u32
 /// at place `judged`.
 fn push_swept(code: &mut Code, layout: &CommandLayout, judged: u32) -> Result<(), AllocError>
     requires place { judged ≤ 2 ^ 24 }
-    requires few { length layout.now.outputs ≤ 2 ^ 16 }
-    requires few_flags { length layout.now.flags ≤ 2 ^ 16 }
+    requires few { length layout.now.outputs ≤ MAX_BODY }
+    requires few_flags { length layout.now.flags ≤ MAX_BODY }
     ensures { OnOk result (code.new ≡ code.old ++ (op.Sweep ∷ op.Drop ∷ op.Drop ∷ op.Jump (dirty_place layout.now judged) ∷ same_command_code layout.now judged)) }
 {
     let dirty = dirty_place(layout, judged);
@@ -344,8 +345,8 @@ fn push_swept(code: &mut Code, layout: &CommandLayout, judged: u32) -> Result<()
 /// `judged`.
 fn push_other(code: &mut Code, layout: &CommandLayout, judged: u32) -> Result<(), AllocError>
     requires place { judged ≤ 2 ^ 24 }
-    requires few { length layout.now.outputs ≤ 2 ^ 16 }
-    requires few_flags { length layout.now.flags ≤ 2 ^ 16 }
+    requires few { length layout.now.outputs ≤ MAX_BODY }
+    requires few_flags { length layout.now.flags ≤ MAX_BODY }
     ensures { OnOk result (code.new ≡ code.old ++ other_code layout.now (dirty_place layout.now judged) (same_command_code layout.now judged)) }
 {
     if compares_basis(layout.baseline) {
@@ -385,8 +386,8 @@ fn push_same(code: &mut Code, blank: bool, command: u32) -> Result<(), AllocErro
 /// Appends code that compares the recorded command. The code begins at place `at`.
 fn push_compare(code: &mut Code, layout: &CommandLayout, at: u32) -> Result<(), AllocError>
     requires place { at ≤ 2 ^ 20 }
-    requires few { length layout.now.outputs ≤ 2 ^ 16 }
-    requires few_flags { length layout.now.flags ≤ 2 ^ 16 }
+    requires few { length layout.now.outputs ≤ MAX_BODY }
+    requires few_flags { length layout.now.flags ≤ MAX_BODY }
     ensures { OnOk result (code.new ≡ code.old ++ compare_code layout.now at) }
 {
     let judged = at + same_len(layout) + 1 + other_len(layout);
@@ -399,8 +400,8 @@ fn push_compare(code: &mut Code, layout: &CommandLayout, at: u32) -> Result<(), 
 /// `at`.
 fn push_baseline(code: &mut Code, layout: &CommandLayout, at: u32) -> Result<(), AllocError>
     requires place { at ≤ 2 ^ 20 }
-    requires few { length layout.now.outputs ≤ 2 ^ 16 }
-    requires few_flags { length layout.now.flags ≤ 2 ^ 16 }
+    requires few { length layout.now.outputs ≤ MAX_BODY }
+    requires few_flags { length layout.now.flags ≤ MAX_BODY }
     ensures { OnOk result (code.new ≡ code.old ++ pass_code true layout.now at) }
 {
     let outputs = layout.outputs.as_slice();
@@ -417,8 +418,8 @@ fn push_baseline(code: &mut Code, layout: &CommandLayout, at: u32) -> Result<(),
 /// Appends code for a generator, which doesn't compare the command. The code begins at place `at`.
 fn push_generator(code: &mut Code, layout: &CommandLayout, at: u32) -> Result<(), AllocError>
     requires place { at ≤ 2 ^ 20 }
-    requires few { length layout.now.outputs ≤ 2 ^ 16 }
-    requires few_flags { length layout.now.flags ≤ 2 ^ 16 }
+    requires few { length layout.now.outputs ≤ MAX_BODY }
+    requires few_flags { length layout.now.flags ≤ MAX_BODY }
     ensures { OnOk result (code.new ≡ code.old ++ pass_code (compares_basis layout.now.baseline) layout.now at) }
 {
     if compares_basis(layout.baseline) {
@@ -437,8 +438,8 @@ pub(crate) fn push_from_entry(
     at: u32,
 ) -> Result<(), AllocError>
     requires place { at ≤ 2 ^ 20 }
-    requires few { length layout.now.outputs ≤ 2 ^ 16 }
-    requires few_flags { length layout.now.flags ≤ 2 ^ 16 }
+    requires few { length layout.now.outputs ≤ MAX_BODY }
+    requires few_flags { length layout.now.flags ≤ MAX_BODY }
     ensures { OnOk result (code.new ≡ code.old ++ from_entry_code layout.now.generator layout.now at) }
 {
     if layout.generator {

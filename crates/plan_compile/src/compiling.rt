@@ -4,7 +4,7 @@ ghost use Rattle.std.specs.Prelude.{◌≡◌, ◌≤◌, ◌++◌, ◌∷◌, [
 ghost use Rattle.plan_scope.specs.Edges.{max_depth};
 ghost use Rattle.plan_scope.specs.Sound.{IsSound};
 ghost use Rattle.plan_graph.specs.Files.{paths_in};
-ghost use Rattle.plan_graph.specs.Graph.{IsGraph};
+ghost use Rattle.plan_graph.specs.Graph.{IsGraph, max_edges};
 ghost use Rattle.plan_compile.specs.Assembling.{codes_in, edges_in};
 ghost use Rattle.plan_compile.specs.Builds.{builds_from};
 ghost use Rattle.plan_compile.specs.EdgeNumbers.{numbers_in};
@@ -23,16 +23,10 @@ use crate::image_laws::{image_is_spelled, manifests_are_sound};
 use crate::names::{Names, Texts, names_of, pool_table};
 use crate::slots::{plan_slots, slot_count};
 use plan_graph::{Files, Graph};
-use plan_image::{Edges, Image, Parts, Pool, Slot};
+use plan_image::{Edges, Image, MAX_FILES, MAX_POOLS, Parts, Pool, Slot};
 use plan_scope::Manifest;
 use plan_text::{Items, RowList};
 use std::alloc::{AllocError, Global};
-
-/// The most files of an image.
-const MOST_FILES: usize = 4_194_304;
-
-/// The most pools of an image.
-const MOST_POOLS: usize = 4096;
 
 /// Appends the path of file `number`.
 fn push_path<'a>(rows: &mut RowList<u8>, files: &Files<'a>, number: usize) -> Result<(), AllocError>
@@ -95,7 +89,7 @@ struct Coded {
 /// Generates the codes of these edges, given the number of files.
 fn code_all<'a>(alloc: Global, files: usize, named: &Named<'a>) -> Result<Coded, CompileFault>
     requires named { length named.now.names.numbers.items ≡ length named.now.builds.items }
-    requires few { length named.now.builds.items ≤ 1048576 }
+    requires few { length named.now.builds.items ≤ max_edges }
     ensures slots { IfOk result (λ c. c.slots.items ≡ slots_from zero named.now.builds.items) }
     ensures bodies { let xs = named.now.builds.items in
         IfOk result (λ c. c.bodies ≡ used_bodies (codes_in (filled (replicate files None) (all_made zero xs)) named.now.names.numbers.items (newest_from zero xs) xs)) }
@@ -179,11 +173,11 @@ fn parts<'a>(
     ensures refused { IfErr result (λ fault. IsRefused rule manifest.now graph.now fault) }
 {
     manifests_are_sound();
-    if graph.files.len() > MOST_FILES {
+    if graph.files.len() > MAX_FILES {
         return Err(CompileFault::Limit);
     }
     let named = name_all(alloc, manifest, graph, rule)?;
-    if named.names.pools.len() > MOST_POOLS {
+    if named.names.pools.len() > MAX_POOLS {
         return Err(CompileFault::Limit);
     }
     let coded = code_all(alloc, graph.files.len(), &named)?;

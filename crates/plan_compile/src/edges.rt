@@ -4,6 +4,7 @@ ghost use Rattle.std.specs.Prelude.{◌≡◌, ◌<◌, ◌≤◌, ◌+◌, ◌+
 ghost use Rattle.plan_image.specs.Bodies.{body_of};
 ghost use Rattle.plan_image.specs.Columns.{lent};
 ghost use Rattle.plan_image.specs.declared.image.EdgeCode.TheVariants.{Shared};
+ghost use Rattle.plan_graph.specs.Graph.{max_edges};
 ghost use Rattle.plan_compile.specs.Assembling.{codes_in, edge_in, edges_in};
 ghost use Rattle.plan_compile.specs.BodyKeys.{same_body};
 ghost use Rattle.plan_compile.specs.Images.{shared, sort_of, used_bodies};
@@ -58,7 +59,7 @@ fn push_edge<'a>(
     code: &Code,
     build: &Build<'a>,
 ) -> Result<(), Memory>
-    requires { length bodies.old ≤ 1048576 }
+    requires { length bodies.old ≤ max_edges }
     ensures bodies { OnOk result (bodies.new ≡ with_item same_body bodies.old (body_of code.now)) }
     ensures edges { OnOk result (edges.new ≡ edges.old ++ edge_in numbers (shared bodies.new code.now) build.now ∷ []) }
     ensures few { OnOk result (length bodies.new ≤ length bodies.old + 1) }
@@ -85,7 +86,7 @@ pub(crate) fn edges_of<'a>(
 ) -> Result<(Edges, Bodies), CompileFault>
     requires long { length plan.now.newest.items ≡ length builds.now }
     requires named { length numbers.now ≡ length builds.now }
-    requires few { length builds.now ≤ 1048576 }
+    requires few { length builds.now ≤ max_edges }
     ensures bodies { IfOk result (λ r. r.1 ≡ used_bodies (codes_in plan.now.table.items numbers.now plan.now.newest.items builds.now)) }
     ensures edges { let codes = codes_in plan.now.table.items numbers.now plan.now.newest.items builds.now in
         IfOk result (λ r. r.0 ≡ edges_in (used_bodies codes) numbers.now codes builds.now) }

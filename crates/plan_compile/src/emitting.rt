@@ -11,17 +11,14 @@ use crate::fault::CompileFault;
 use crate::inputs::{push_any, push_newest, push_order};
 use crate::layout::{CommandLayout, EdgeLayout, GatherLayout, Output};
 use crate::outputs::push_alone;
-use plan_image::Instr;
+use plan_image::{Instr, MAX_BODY};
 use std::alloc::{AllocError, Global};
-
-/// The most instructions of a body of an image.
-const MOST: usize = 65536;
 
 /// Returns `Limit` if the code has too many places.
 fn check_length(code: &Code) -> Result<(), CompileFault>
     ensures { seen_by (λ _. code.now) result ≡ emitted code.now }
 {
-    if code.len() <= MOST {
+    if code.len() <= MAX_BODY {
         Ok(())
     } else {
         Err(CompileFault::Limit)
@@ -33,13 +30,13 @@ fn put_command(code: &mut Code, layout: &CommandLayout) -> Result<(), CompileFau
     ensures { Meets CompileFault.Memory (λ _. code.new) result (emitted (command_code layout.now)) }
 {
     push_front(code, layout)?;
-    if code.len() > MOST {
+    if code.len() > MAX_BODY {
         return Err(CompileFault::Limit);
     }
-    if layout.outputs.len() > MOST {
+    if layout.outputs.len() > MAX_BODY {
         return Err(CompileFault::Limit);
     }
-    if layout.flags.len() > MOST {
+    if layout.flags.len() > MAX_BODY {
         return Err(CompileFault::Limit);
     }
     let at = code.len() as u32;

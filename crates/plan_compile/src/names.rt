@@ -2,6 +2,8 @@
 
 ghost use Rattle.std.specs.Prelude.{All, ◌≡◌, ◌≤◌, ◌+◌, ◌++◌, ◌∷◌, [], List, Some, ℕ, bytes_eq, IfOk, length, map, OnOk, option_map, slice_get};
 ghost use Rattle.plan_scope.specs.Edges.{max_depth};
+ghost use Rattle.plan_graph.specs.Graph.{max_edges};
+ghost use Rattle.plan_image.specs.declared.maxima.TheConstants.{MAX_TEXTS};
 ghost use Rattle.plan_compile.specs.EdgeNumbers.{command_numbers, numbers_in};
 ghost use Rattle.plan_scope.specs.declared.manifest.Pool.{Pool as ManifestPool};
 ghost use Rattle.plan_compile.specs.PoolDepths.{AreDepths};
@@ -11,8 +13,9 @@ ghost use Rattle.plan_scope.specs.TextLists.{whole};
 
 use crate::build::{Build, word};
 use crate::numbers::Numbers;
-use crate::text_key::{HeldKey, Key};
+use crate::text_key::HeldKey;
 use indexmap::{IndexMap, IndexSet};
+use plan_graph::Key;
 use plan_image::Pool;
 use plan_scope::{CowText, EdgeRef, EdgeText};
 use plan_text::{Items, RowList};
@@ -115,7 +118,7 @@ fn put_unless_empty<'a>(
     texts: &mut Texts<'a>,
     text: &EdgeText<'a>,
 ) -> Result<Option<u32>, AllocError>
-    requires { length texts.old ≤ 4194304 }
+    requires { length texts.old ≤ MAX_TEXTS }
     ensures texts { OnOk result (texts.new ≡ with_items bytes_eq texts.old (unless_empty (whole text.now))) }
     ensures number { IfOk result (λ n. n ≡ depfile_number texts.new (whole text.now)) }
     ensures few { OnOk result (length texts.new ≤ length texts.old + 1) }
@@ -214,7 +217,7 @@ pub(crate) struct Names<'a> {
 
 /// Collects the texts and the pools of all edges.
 pub(crate) fn names_of<'a>(alloc: Global, builds: &[Build<'a>]) -> Result<Names<'a>, AllocError>
-    requires { length builds.now ≤ 1048576 }
+    requires { length builds.now ≤ max_edges }
     ensures texts { IfOk result (λ names. names.texts ≡ all_texts builds.now) }
     ensures pools { IfOk result (λ names. names.pools ≡ used_pools builds.now) }
     ensures numbers { IfOk result (λ names. names.numbers.items ≡ map (numbers_in (all_texts builds.now) (used_pools builds.now)) builds.now) }

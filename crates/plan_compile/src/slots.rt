@@ -2,6 +2,7 @@
 
 ghost use Rattle.std.specs.Prelude.{◌≡◌, ◌≤◌, ◌<◌, ◌+◌, ◌++◌, ◌∷◌, [], length, replicate, None, IfNone, IfOk, IfSome, OnOk, zero};
 ghost use Rattle.plan_image.specs.Spelling.{IsWord, RoomAfter};
+ghost use Rattle.plan_graph.specs.Graph.{max_edges};
 ghost use Rattle.plan_compile.specs.declared.slot_pattern.SlotPattern.TheVariants as form;
 ghost use Rattle.plan_compile.specs.OutputTable.{filled, found, put};
 ghost use Rattle.plan_compile.specs.Slots.{all_made, form_by, input_by, kinds_by, newest_by, newest_from, outputs_apart, outputs_by, outputs_flagged, outputs_sharing, own_kinds, owned, pairs, slot_count, slots_from, stamps};
@@ -9,11 +10,8 @@ ghost use Rattle.plan_compile.specs.Slots.{all_made, form_by, input_by, kinds_by
 use crate::build::{Build, word};
 use crate::layout::{Input, Output};
 use crate::slot_pattern::SlotPattern;
-use plan_image::{Kind, Slot};
+use plan_image::{Kind, MAX_SLOTS, Slot};
 use std::alloc::{AllocError, Global};
-
-/// The most slots of an image.
-const MOST: usize = 16_777_216;
 
 /// Returns the slot pattern of an edge, from whether it is a phony, is restat, and has no inputs.
 fn form_by(phony: bool, restat: bool, none: bool) -> SlotPattern
@@ -72,11 +70,11 @@ fn slots_room<'a>(builds: &[Build<'a>], room: usize) -> Option<usize>
 /// Returns the number of slots of these edges. Returns None if an image may not have that many.
 pub(crate) fn slot_count<'a>(builds: &[Build<'a>]) -> Option<usize>
     ensures count { IfSome result (λ n. n ≡ slot_count builds.now) }
-    ensures few { IfSome result (λ n. n ≤ 16777216) }
-    ensures many { IfNone result (16777216 < slot_count builds.now) }
+    ensures few { IfSome result (λ n. n ≤ MAX_SLOTS) }
+    ensures many { IfNone result (MAX_SLOTS < slot_count builds.now) }
 {
-    match slots_room(builds, MOST) {
-        Some(left) => Some(MOST - left),
+    match slots_room(builds, MAX_SLOTS) {
+        Some(left) => Some(MAX_SLOTS - left),
         None => None,
     }
 }
@@ -113,7 +111,7 @@ fn add_sharing_slots(
     changed: u32,
     files: &[u32],
 ) -> Result<(), AllocError>
-    requires { length slots.old.items + length (stamps files.now) ≤ 16777216 }
+    requires { length slots.old.items + length (stamps files.now) ≤ MAX_SLOTS }
     ensures slots { OnOk result (slots.new.items ≡ slots.old.items ++ owned owner (stamps files.now)) }
     ensures table { OnOk result (table.new.items ≡ filled table.old.items (outputs_flagged (length slots.old.items) changed files.now)) }
 {
@@ -138,7 +136,7 @@ fn add_own_slots(
     owner: u32,
     files: &[u32],
 ) -> Result<(), AllocError>
-    requires { length slots.old.items + length (pairs files.now) ≤ 16777216 }
+    requires { length slots.old.items + length (pairs files.now) ≤ MAX_SLOTS }
     ensures slots { OnOk result (slots.new.items ≡ slots.old.items ++ owned owner (pairs files.now)) }
     ensures table { OnOk result (table.new.items ≡ filled table.old.items (outputs_apart (length slots.old.items) files.now)) }
 {
@@ -180,7 +178,7 @@ fn add_command_slots(
     owner: u32,
     files: &[u32],
 ) -> Result<u32, AllocError>
-    requires { length slots.old.items + length (kinds_by form.OneFlag files.now) ≤ 16777216 }
+    requires { length slots.old.items + length (kinds_by form.OneFlag files.now) ≤ MAX_SLOTS }
     ensures newest { IfOk result (λ n. n ≡ newest_by form.OneFlag (length slots.old.items)) }
     ensures slots { OnOk result (slots.new.items ≡ slots.old.items ++ owned owner (kinds_by form.OneFlag files.now)) }
     ensures table { OnOk result (table.new.items ≡ filled table.old.items (outputs_by form.OneFlag (length slots.old.items) files.now)) }
@@ -198,7 +196,7 @@ fn add_restat_slots(
     owner: u32,
     files: &[u32],
 ) -> Result<u32, AllocError>
-    requires { length slots.old.items + length (kinds_by form.OwnFlags files.now) ≤ 16777216 }
+    requires { length slots.old.items + length (kinds_by form.OwnFlags files.now) ≤ MAX_SLOTS }
     ensures newest { IfOk result (λ n. n ≡ newest_by form.OwnFlags (length slots.old.items)) }
     ensures slots { OnOk result (slots.new.items ≡ slots.old.items ++ owned owner (kinds_by form.OwnFlags files.now)) }
     ensures table { OnOk result (table.new.items ≡ filled table.old.items (outputs_by form.OwnFlags (length slots.old.items) files.now)) }
@@ -216,7 +214,7 @@ fn add_phony_slots(
     owner: u32,
     files: &[u32],
 ) -> Result<u32, AllocError>
-    requires { length slots.old.items + length (kinds_by form.Gathers files.now) ≤ 16777216 }
+    requires { length slots.old.items + length (kinds_by form.Gathers files.now) ≤ MAX_SLOTS }
     ensures newest { IfOk result (λ n. n ≡ newest_by form.Gathers (length slots.old.items)) }
     ensures slots { OnOk result (slots.new.items ≡ slots.old.items ++ owned owner (kinds_by form.Gathers files.now)) }
     ensures table { OnOk result (table.new.items ≡ filled table.old.items (outputs_by form.Gathers (length slots.old.items) files.now)) }
@@ -234,7 +232,7 @@ fn add_leaf_slots(
     owner: u32,
     files: &[u32],
 ) -> Result<u32, AllocError>
-    requires { length slots.old.items + length (kinds_by form.Alone files.now) ≤ 16777216 }
+    requires { length slots.old.items + length (kinds_by form.Alone files.now) ≤ MAX_SLOTS }
     ensures newest { IfOk result (λ n. n ≡ newest_by form.Alone (length slots.old.items)) }
     ensures slots { OnOk result (slots.new.items ≡ slots.old.items ++ owned owner (kinds_by form.Alone files.now)) }
     ensures table { OnOk result (table.new.items ≡ filled table.old.items (outputs_by form.Alone (length slots.old.items) files.now)) }
@@ -252,7 +250,7 @@ fn add_slots(
     form: SlotPattern,
     files: &[u32],
 ) -> Result<u32, AllocError>
-    requires { length slots.old.items + length (kinds_by form files.now) ≤ 16777216 }
+    requires { length slots.old.items + length (kinds_by form files.now) ≤ MAX_SLOTS }
     ensures newest { IfOk result (λ n. n ≡ newest_by form (length slots.old.items)) }
     ensures slots { OnOk result (slots.new.items ≡ slots.old.items ++ owned owner (kinds_by form files.now)) }
     ensures table { OnOk result (table.new.items ≡ filled table.old.items (outputs_by form (length slots.old.items) files.now)) }
@@ -282,8 +280,8 @@ pub(crate) fn plan_slots<'a>(
     count: usize,
     builds: &[Build<'a>],
 ) -> Result<Plan, AllocError>
-    requires count { slot_count builds.now ≤ 16777216 }
-    requires few { length builds.now ≤ 1048576 }
+    requires count { slot_count builds.now ≤ MAX_SLOTS }
+    requires few { length builds.now ≤ max_edges }
     ensures slots { IfOk result (λ p. p.slots.items ≡ slots_from zero builds.now) }
     ensures table { IfOk result (λ p. p.table.items ≡ filled (replicate files None) (all_made zero builds.now)) }
     ensures newest { IfOk result (λ p. p.newest.items ≡ newest_from zero builds.now) }

@@ -6,6 +6,7 @@ use Rattle.plan_scope.specs.Edge.{Edge}
 use Rattle.plan_scope.specs.declared.manifest.Manifest.{Manifest}
 use Rattle.plan_scope.specs.Scopes.{or_else}
 use Rattle.plan_scope.specs.Edges.{is_among}
+use Rattle.plan_graph.specs.declared.graph_data.TheConstants.{MAX_EDGES}
 use Rattle.plan_graph.specs.declared.fault.GraphFault.{GraphFault}
 use Rattle.plan_graph.specs.declared.fault.GraphFault.TheVariants.{TwoProducers, Cycle, UnknownDefault, TooManyEdges, Memory}
 use Rattle.plan_graph.specs.declared.graph_data.Graph.{Graph as GraphMeant}
@@ -88,7 +89,7 @@ unknown_target above [] = None
 unknown_target above (d ∷ ds) = if is_among (flat_map outputs_of above) d.path then unknown_target above ds else Some (UnknownDefault d.path)
 
 abbrev pub max_edges : ℕ
-max_edges = 1048576
+max_edges = MAX_EDGES
 
 abbrev pub edge_limit : List Edge → Option GraphFault
 edge_limit above = if nat_le max_edges (length above) then Some TooManyEdges else None

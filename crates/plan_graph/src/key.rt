@@ -1,4 +1,4 @@
-//! Paths as keys of hash tables.
+//! Texts as keys of hash tables.
 
 ghost use Rattle.std.specs.Prelude.{bytes_eq};
 ghost use Rattle.std.specs.Cmp.{on_equiv, on_per, partial_equiv_from_equiv};
@@ -9,10 +9,10 @@ ghost use Rattle.plan_graph.specs.Keys.{same_fed};
 use plan_text::feed_words;
 use std::hash::{Hash, Hasher};
 
-/// A path that is hashed eight bytes at a time. A slice would be hashed byte by byte.
+/// A text, such as a path, that is hashed eight bytes at a time. A slice would be hashed byte by byte.
 #[derive(Clone, Copy)]
 pub struct Key<'a> {
-    /// The path.
+    /// The text.
     pub bytes: &'a [u8],
 }
 

@@ -18,6 +18,7 @@ pub use build_graph::graph;
 pub use fault::GraphFault;
 pub use files::Files;
 pub use graph_data::{Graph, MAX_EDGES};
+pub use key::Key;
 pub use laws::{
     defaults_ascend, files_complete, files_distinct, producers_numbered, producers_waited,
     ranked_unless_cyclic, ranks_rise, waits_ascend,

@@ -10,7 +10,8 @@ use Rattle.plan_image.specs.declared.instr.Instr.{Instr}
 use Rattle.plan_image.specs.declared.instr.Instr.TheVariants as op
 use Rattle.plan_image.specs.declared.image.Sort.{Sort}
 use Rattle.plan_image.specs.declared.image.Sort.TheVariants as sort
-use Rattle.plan_image.specs.Spelling.{counted, number, IsWord, kind_byte, sort_byte, flag_byte, instr, operand, InstrFits, opening_byte, body_instr, BodyInstrFits, BodyFits, body, BodiesFit, body_instructions, bodies, version_of}
+use Rattle.plan_image.specs.Opcodes.{flag_byte}
+use Rattle.plan_image.specs.Spelling.{counted, number, IsWord, kind_byte, sort_byte, instr, operand, InstrFits, opening_byte, body_instr, BodyInstrFits, BodyFits, body, BodiesFit, body_instructions, bodies, version_of}
 use Rattle.plan_image.specs.Reading.{◌>>=◌, tag, items_at, byte_at, kind_at, sort_at, bare_of, numbered_of, operand_at, flagged_at, instr_at, opening_by, open_at, body_instr_at, body_at, body_table_at, bodies_at, refuse}
 use Rattle.plan_image.specs.declared.instr.Opening.{Opening}
 use Rattle.plan_image.specs.declared.instr.Opening.TheVariants as opening

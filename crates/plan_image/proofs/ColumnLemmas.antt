@@ -5,7 +5,8 @@ use Rattle.std.proofs.lemmas.List.{get_or-take, get_or_at, get_or_append_left, l
 use Rattle.plan_image.specs.declared.image.Edge.{Edge}
 use Rattle.plan_image.specs.declared.instr.Instr.{Instr}
 use Rattle.plan_image.specs.declared.edge_ref.Head.{Head}
-use Rattle.plan_image.specs.Columns.{by_place, code_by, instr_by, instr_with, instrs_by, edge_with, shared_body, shared_operands, AreSameBelow}
+use Rattle.plan_image.specs.Opcodes.{instr_by}
+use Rattle.plan_image.specs.Columns.{by_place, code_by, instr_with, instrs_by, edge_with, shared_body, shared_operands, AreSameBelow}
 
 pub at : {X : Type 0} (xs : List X) (i : ℕ) (x : X) → i < length xs → x ≡ get_or xs i x → slice_get xs i ≡ Some x
 at [] i x h e = absurd (omega (arith, h))

@@ -1,8 +1,8 @@
 -- Edges and instructions in columns: the items with the same index in each column form one edge or one
 -- instruction.
-use Rattle.std.specs.Prelude.{◌≡◌, ◌<◌, ℕ, ◌+◌, List, [], ◌∷◌, Option, Some, None, get_or, option_map, slice_get, ◌==◌, if◌then◌else◌}
+use Rattle.std.specs.Prelude.{◌≡◌, ◌<◌, ℕ, ◌+◌, List, [], ◌∷◌, Option, Some, None, get_or, option_map, slice_get}
 use Rattle.plan_image.specs.declared.instr.Instr.{Instr}
-use Rattle.plan_image.specs.declared.instr.Instr.TheVariants as op
+use Rattle.plan_image.specs.Opcodes.{instr_by}
 use Rattle.plan_image.specs.declared.image.Edge.{Edge}
 use Rattle.plan_image.specs.declared.image.EdgeCode.{EdgeCode}
 use Rattle.plan_image.specs.declared.image.EdgeCode.TheVariants as code_form
@@ -18,39 +18,6 @@ by_place f n [] = []
 by_place f n (x ∷ xs) = f n x ∷ by_place f (n + 1) xs
 
 -- ---- instructions
-
--- the instruction of an opcode with this operand; the operand of Flag is 1 for true
-abbrev pub instr_by : ℕ → ℕ → Instr
-instr_by o n =
-    if o == 1 then op.Stat n
-    else if o == 2 then op.Need n
-    else if o == 3 then op.Load n
-    else if o == 4 then op.Store n
-    else if o == 5 then op.Older
-    else if o == 6 then op.Newer
-    else if o == 7 then op.Before
-    else if o == 8 then op.Same
-    else if o == 9 then op.IsMissing
-    else if o == 10 then op.Or
-    else if o == 11 then op.Not
-    else if o == 12 then op.Flag (n == 1)
-    else if o == 13 then op.Zero
-    else if o == 14 then op.NoPaths
-    else if o == 15 then op.Text n
-    else if o == 16 then op.Join
-    else if o == 17 then op.Equal
-    else if o == 18 then op.Recall
-    else if o == 19 then op.Sweep
-    else if o == 20 then op.Jump n
-    else if o == 21 then op.JumpIf n
-    else if o == 22 then op.Take
-    else if o == 23 then op.Release
-    else if o == 24 then op.Run
-    else if o == 25 then op.Deps
-    else if o == 26 then op.Keep
-    else if o == 27 then op.Drop
-    else if o == 28 then op.Swap
-    else op.End
 
 -- the instruction of an opcode at this place, given the operands
 abbrev pub instr_with : List ℕ → ℕ → ℕ → Instr

@@ -1,5 +1,6 @@
 pub mod Bodies
 pub mod Code
+pub mod Opcodes
 pub mod Columns
 pub mod Views
 pub mod Spelling

@@ -19,7 +19,8 @@ use Rattle.plan_image.specs.declared.image.EdgeCode.TheVariants as code_form
 use Rattle.plan_image.specs.declared.instr.BodyInstr.{BodyInstr}
 use Rattle.plan_image.specs.declared.instr.BodyInstr.TheVariants as member
 use Rattle.plan_image.specs.Bodies.{put}
-use Rattle.plan_image.specs.Spelling.{operand, flag_byte}
+use Rattle.plan_image.specs.Opcodes.{flag_byte}
+use Rattle.plan_image.specs.Spelling.{operand}
 
 -- words, separated by spaces, and the end of the line
 abbrev pub line : List (List ℕ) → List ℕ

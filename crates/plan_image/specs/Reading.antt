@@ -27,6 +27,7 @@ use Rattle.plan_image.specs.declared.instr.Opening.{Opening}
 use Rattle.plan_image.specs.declared.instr.Opening.TheVariants as opening
 use Rattle.plan_image.specs.declared.instr.BodyInstr.{BodyInstr}
 use Rattle.plan_image.specs.declared.instr.BodyInstr.TheVariants as member
+use Rattle.plan_image.specs.declared.maxima.TheConstants.{MAX_BODIES, MAX_BODY, MAX_BODY_INSTRS, MAX_DEPTH, MAX_EDGES, MAX_FILES, MAX_IMAGE, MAX_OWN_INSTRS, MAX_PATH, MAX_POOLS, MAX_SHARED_INSTRS, MAX_SLOTS, MAX_TEXT, MAX_TEXTS}
 use Rattle.plan_image.specs.Bodies.{opens}
 use Rattle.plan_image.specs.Faults.{fault_at}
 use Rattle.plan_image.specs.Code.{instrs_of}
@@ -75,12 +76,12 @@ bytes_at n bytes = if nat_lt (length bytes) n then stop Truncated [] else Ok (ta
 
 unfoldable pub text_at : List ℕ → Read (List ℕ)
 text_at bytes = do
-  n ← number_up_to w32 1048576 bytes
+  n ← number_up_to w32 MAX_TEXT bytes
   bytes_at n.0 n.1
 
 unfoldable pub file_at : List ℕ → Read (List ℕ)
 file_at bytes = do
-  n ← number_up_to w16 4096 bytes
+  n ← number_up_to w16 MAX_PATH bytes
   _ ← refuse (n.0 == 0) Limit bytes
   bytes_at n.0 n.1
 
@@ -147,7 +148,7 @@ unfoldable pub pool_at : List ℕ → Read Pool
 pool_at bytes = do
   len ← number_at w16 bytes
   name ← bytes_at len.0 len.1
-  depth ← number_up_to w32 1000000 name.1
+  depth ← number_up_to w32 MAX_DEPTH name.1
   Ok (record { name = name.0; depth = depth.0 }, depth.1)
 
 abbrev pub sort_of : ℕ → Option Sort
@@ -223,14 +224,14 @@ pool_of (suc n) = Some n
 -- the edge's own instructions, if the edges before it have `used` instructions
 unfoldable pub own_code_at : ℕ → List ℕ → Read EdgeCode
 own_code_at used bytes = do
-  n ← number_up_to w32 (2 ^ 24 - used) bytes
+  n ← number_up_to w32 (MAX_OWN_INSTRS - used) bytes
   is ← items_at (λ (s : Unit {0}). instr_at) (λ s x. s) tt n.0 n.1
   Ok (code_form.Own is.0, is.1)
 
 -- the numbers for the open instructions of a body, if the edges before have `used` instructions
 abbrev pub numbers_for : ℕ → ℕ → ℕ → ℕ → List ℕ → List ℕ → Read EdgeCode
 numbers_for used n len count bytes rest = do
-  _ ← refuse (nat_lt (2 ^ 26 - used) len) Limit bytes
+  _ ← refuse (nat_lt (MAX_SHARED_INSTRS - used) len) Limit bytes
   ns ← items_at (λ (s : Unit {0}). number_at w32) (λ s x. s) tt count rest
   Ok (code_form.Shared n ns.0, ns.1)
 
@@ -265,7 +266,7 @@ used_after bodies used x = used + length (instrs_of bodies x.code)
 
 unfoldable pub edges_at : Option (List (List BodyInstr)) → List ℕ → Read (List Edge)
 edges_at bodies bytes = do
-  n ← number_up_to w32 (2 ^ 20) bytes
+  n ← number_up_to w32 MAX_EDGES bytes
   items_at (edge_at bodies) (used_after bodies) 0 n.0 n.1
 
 -- the kind of an open instruction, given its opcode
@@ -295,13 +296,13 @@ body_instr_at bytes = do
 -- a body, if the bodies before it have `used` instructions
 unfoldable pub body_at : ℕ → List ℕ → Read (List BodyInstr)
 body_at used bytes = do
-  n ← number_up_to w32 65536 bytes
-  _ ← refuse (nat_lt (2 ^ 24 - used) n.0) Limit bytes
+  n ← number_up_to w32 MAX_BODY bytes
+  _ ← refuse (nat_lt (MAX_BODY_INSTRS - used) n.0) Limit bytes
   items_at (λ (s : Unit {0}). body_instr_at) (λ s x. s) tt n.0 n.1
 
 unfoldable pub body_table_at : List ℕ → Read (List (List BodyInstr))
 body_table_at bytes = do
-  n ← number_up_to w32 (2 ^ 20) bytes
+  n ← number_up_to w32 MAX_BODIES bytes
   items_at body_at (λ used b. used + length b) 0 n.0 n.1
 
 -- the table of bodies, if the version has one
@@ -334,10 +335,10 @@ head_at bytes =
 unfoldable pub parts_at : List ℕ → Read Parts
 parts_at bytes = do
   head ← head_at bytes
-  texts ← table_at text_at (2 ^ 22) head.1
-  files ← table_at file_at (2 ^ 22) texts.1
-  pools ← table_at pool_at 4096 files.1
-  slots ← table_at slot_at (2 ^ 24) pools.1
+  texts ← table_at text_at MAX_TEXTS head.1
+  files ← table_at file_at MAX_FILES texts.1
+  pools ← table_at pool_at MAX_POOLS files.1
+  slots ← table_at slot_at MAX_SLOTS pools.1
   bodies ← bodies_at head.0 slots.1
   edges ← edges_at bodies.0 bodies.1
   defaults ← ascending_at edges.1
@@ -355,4 +356,4 @@ located whole (Err e) = Err (fault_at e.cause (whole - e.left))
 
 -- the tables that the bytes represent, or the first fault with its offset
 unfoldable pub read_of : List ℕ → Result Parts ImageFault
-read_of bytes = if nat_lt 268435456 (length bytes) then Err (fault.Limit 0) else located (length bytes) (tables_at bytes)
+read_of bytes = if nat_lt MAX_IMAGE (length bytes) then Err (fault.Limit 0) else located (length bytes) (tables_at bytes)

@@ -1,5 +1,5 @@
 -- The one spelling of an image, and the condition for having one.
-use Rattle.std.specs.Prelude.{◌≡◌, ◌≢◌, ℕ, ◌+◌, ◌<◌, ◌≤◌, ◌^◌, Bool, true, false, List, [], ◌∷◌, ◌++◌, length, Option, Some, None, IfSome}
+use Rattle.std.specs.Prelude.{◌≡◌, ◌≢◌, ℕ, ◌+◌, ◌<◌, ◌≤◌, ◌^◌, List, [], ◌∷◌, ◌++◌, length, Option, Some, None, IfSome}
 use Rattle.std.specs.List.{flat_map, AllByRecursion}
 use Rattle.std.specs.Int.{w16, w32, to_be_bytes}
 use Rattle.plan_image.specs.declared.instr.Kind.{Kind}
@@ -17,11 +17,12 @@ use Rattle.plan_image.specs.declared.image.EdgeCode.TheVariants as code_form
 use Rattle.plan_image.specs.declared.image.Version.{Version}
 use Rattle.plan_image.specs.declared.image.Version.TheVariants as version
 use Rattle.plan_image.specs.declared.instr.Opening.{Opening}
-use Rattle.plan_image.specs.declared.instr.Opening.TheVariants as opening
 use Rattle.plan_image.specs.declared.instr.BodyInstr.{BodyInstr}
 use Rattle.plan_image.specs.declared.instr.BodyInstr.TheVariants as member
-use Rattle.plan_image.specs.Bodies.{body_of, opening_of}
+use Rattle.plan_image.specs.declared.maxima.TheConstants.{MAX_BODIES, MAX_BODY, MAX_BODY_INSTRS, MAX_DEPTH, MAX_EDGES, MAX_FILES, MAX_IMAGE, MAX_OWN_INSTRS, MAX_PATH, MAX_POOLS, MAX_SHARED_INSTRS, MAX_SLOTS, MAX_TEXT, MAX_TEXTS}
+use Rattle.plan_image.specs.Bodies.{body_of, opening_of, put}
 use Rattle.plan_image.specs.Code.{instrs_of, HasBody}
+use Rattle.plan_image.specs.Opcodes.{opcode, flag_byte}
 
 -- ---- fields
 
@@ -52,45 +53,25 @@ abbrev pub sort_byte : Sort → ℕ
 sort_byte sort.Command = 0
 sort_byte sort.Phony = 1
 
-abbrev pub flag_byte : Bool → ℕ
-flag_byte false = 0
-flag_byte true = 1
-
 -- 0 for no pool, and else the number of the pool plus 1
 abbrev pub pool_number : Option ℕ → ℕ
 pool_number None = 0
 pool_number (Some n) = n + 1
 
+-- the bytes of an operand
+abbrev pub operand_bytes : Instr → List ℕ
+operand_bytes (op.Stat f) = number f
+operand_bytes (op.Need f) = number f
+operand_bytes (op.Load s) = number s
+operand_bytes (op.Store s) = number s
+operand_bytes (op.Flag b) = flag_byte b ∷ []
+operand_bytes (op.Text t) = number t
+operand_bytes (op.Jump d) = number d
+operand_bytes (op.JumpIf d) = number d
+operand_bytes i = []
+
 abbrev pub instr : Instr → List ℕ
-instr op.End = 0 ∷ []
-instr (op.Stat f) = 1 ∷ number f
-instr (op.Need f) = 2 ∷ number f
-instr (op.Load s) = 3 ∷ number s
-instr (op.Store s) = 4 ∷ number s
-instr op.Older = 5 ∷ []
-instr op.Newer = 6 ∷ []
-instr op.Before = 7 ∷ []
-instr op.Same = 8 ∷ []
-instr op.IsMissing = 9 ∷ []
-instr op.Or = 10 ∷ []
-instr op.Not = 11 ∷ []
-instr (op.Flag b) = 12 ∷ flag_byte b ∷ []
-instr op.Zero = 13 ∷ []
-instr op.NoPaths = 14 ∷ []
-instr (op.Text t) = 15 ∷ number t
-instr op.Join = 16 ∷ []
-instr op.Equal = 17 ∷ []
-instr op.Recall = 18 ∷ []
-instr op.Sweep = 19 ∷ []
-instr (op.Jump d) = 20 ∷ number d
-instr (op.JumpIf d) = 21 ∷ number d
-instr op.Take = 22 ∷ []
-instr op.Release = 23 ∷ []
-instr op.Run = 24 ∷ []
-instr op.Deps = 25 ∷ []
-instr op.Keep = 26 ∷ []
-instr op.Drop = 27 ∷ []
-instr op.Swap = 28 ∷ []
+instr i = opcode i ∷ operand_bytes i
 
 abbrev pub pool : Pool → List ℕ
 pool p = short_text p.name ++ number p.depth
@@ -111,12 +92,9 @@ abbrev pub edge : Edge → List ℕ
 edge x =
     edge_head x ++ counted number x.outputs ++ counted number x.waits ++ edge_code x.code
 
+-- the opcode of the instruction that is left open
 abbrev pub opening_byte : Opening → ℕ
-opening_byte opening.Stat = 1
-opening_byte opening.Need = 2
-opening_byte opening.Load = 3
-opening_byte opening.Store = 4
-opening_byte opening.Text = 15
+opening_byte o = opcode (put o 0)
 
 abbrev pub body_instr : BodyInstr → List ℕ
 body_instr (member.Fixed i) = instr i
@@ -162,14 +140,14 @@ abbrev pub AreWords : List ℕ → Type 0
 AreWords ns = (length ns < 2 ^ 32) × AllByRecursion IsWord ns
 
 abbrev pub IsText : List ℕ → Type 0
-IsText text = length text ≤ 1048576
+IsText text = length text ≤ MAX_TEXT
 
 abbrev pub IsFileName : List ℕ → Type 0
-IsFileName name = (0 < length name) × (length name ≤ 4096)
+IsFileName name = (0 < length name) × (length name ≤ MAX_PATH)
 
 pub record PoolFits (p : Pool) : Type 0 where
   pub name : length p.name < 2 ^ 16
-  pub depth : p.depth ≤ 1000000
+  pub depth : p.depth ≤ MAX_DEPTH
 
 abbrev pub SlotFits : Slot → Type 0
 SlotFits s = IsWord s.owner
@@ -198,7 +176,7 @@ BodyInstrFits (member.Fixed i) = (opening_of i ≡ None) × InstrFits i
 BodyInstrFits (member.Open o) = Unit {0}
 
 abbrev pub BodyFits : List BodyInstr → Type 0
-BodyFits is = (length is ≤ 65536) × AllByRecursion BodyInstrFits is
+BodyFits is = (length is ≤ MAX_BODY) × AllByRecursion BodyInstrFits is
 
 -- if the numbers of a code fit their fields, its body has a spelling
 abbrev pub BodiesHaveSpelling : Type 0
@@ -219,8 +197,8 @@ instructions bs (x ∷ xs) = length (instrs_of bs x.code) + instructions bs xs
 
 -- the most instructions of all edges
 abbrev pub most_code : Option (List (List BodyInstr)) → ℕ
-most_code None = 2 ^ 24
-most_code (Some bs) = 2 ^ 26
+most_code None = MAX_OWN_INSTRS
+most_code (Some bs) = MAX_SHARED_INSTRS
 
 -- the number of instructions of all bodies
 abbrev pub body_instructions : List (List BodyInstr) → ℕ
@@ -228,17 +206,17 @@ body_instructions [] = 0
 body_instructions (b ∷ bs) = length b + body_instructions bs
 
 pub record BodiesFit (bs : List (List BodyInstr)) : Type 0 where
-  pub count : length bs ≤ 2 ^ 20
+  pub count : length bs ≤ MAX_BODIES
   pub each : AllByRecursion BodyFits bs
-  pub instructions : body_instructions bs ≤ 2 ^ 24
+  pub instructions : body_instructions bs ≤ MAX_BODY_INSTRS
 
 -- no table has more items than its limit
 pub record CountsFit (p : Parts) : Type 0 where
-  pub texts : length p.texts ≤ 2 ^ 22
-  pub files : length p.files ≤ 2 ^ 22
-  pub pools : length p.pools ≤ 4096
-  pub slots : length p.slots ≤ 2 ^ 24
-  pub edges : length p.edges ≤ 2 ^ 20
+  pub texts : length p.texts ≤ MAX_TEXTS
+  pub files : length p.files ≤ MAX_FILES
+  pub pools : length p.pools ≤ MAX_POOLS
+  pub slots : length p.slots ≤ MAX_SLOTS
+  pub edges : length p.edges ≤ MAX_EDGES
 
 -- each length and number fits its field and its limit
 pub record ItemsFit (p : Parts) : Type 0 where
@@ -255,7 +233,7 @@ pub record IsWithinLimits (p : Parts) : Type 0 where
   pub items : ItemsFit p
   pub bodies : IfSome p.bodies BodiesFit
   pub instructions : instructions p.bodies p.edges ≤ most_code p.bodies
-  pub bytes : length (spelling p) ≤ 268435456
+  pub bytes : length (spelling p) ≤ MAX_IMAGE
 
 -- waits and defaults ascend
 pub record IsInOrder (p : Parts) : Type 0 where

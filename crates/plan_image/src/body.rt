@@ -2,10 +2,10 @@
 
 ghost use Rattle.std.specs.Prelude.{◌≡◌, ◌+◌, ◌<◌, ◌≤◌, ◌^◌, ◌∷◌, ◌++◌, [], length, List, IfOk, OnOk, slice_get, get_or};
 ghost use Rattle.plan_image.specs.declared.instr.BodyInstr.{BodyInstr};
-ghost use Rattle.plan_image.specs.Bodies.{opens, ranks_from, with_operands, put, IsSplit, body_of, operands_of, open_operand};
+ghost use Rattle.plan_image.specs.Bodies.{opens, ranks_from, with_operands, IsSplit, body_of, operands_of, open_operand};
 ghost use Rattle.plan_image.specs.Spelling.{BodiesHaveSpelling};
 
-use crate::instr::{BodyInstr, Instr, Opening};
+use crate::instr::{BodyInstr, Instr};
 use plan_text::{Items, Memory};
 use std::alloc::{AllocError, Global};
 use std::marker::Model;
@@ -43,19 +43,6 @@ fn next_rank(rank: usize, instr: BodyInstr) -> usize
     match instr {
         BodyInstr::Fixed(_instr) => rank,
         BodyInstr::Open(_opening) => rank + 1,
-    }
-}
-
-/// Returns the open instruction with this number as its operand.
-pub(crate) const fn with_number(opening: Opening, number: u32) -> Instr
-    ensures { result ≡ put opening number }
-{
-    match opening {
-        Opening::Stat => Instr::Stat(number),
-        Opening::Need => Instr::Need(number),
-        Opening::Load => Instr::Load(number),
-        Opening::Store => Instr::Store(number),
-        Opening::Text => Instr::Text(number),
     }
 }
 
@@ -127,7 +114,7 @@ impl Body {
             None => None,
             Some(BodyInstr::Fixed(instr)) => Some(*instr),
             Some(BodyInstr::Open(opening)) => {
-                Some(with_number(*opening, number_at(numbers, rank)))
+                Some(opening.with_number(number_at(numbers, rank)))
             }
         }
     }
@@ -149,20 +136,6 @@ pub(crate) fn number_at(numbers: &[u32], rank: usize) -> u32
     match numbers.get(rank) {
         Some(number) => *number,
         None => 0,
-    }
-}
-
-/// Returns the instruction with its number left open, if it is of a kind that can be open.
-const fn leave_open(instr: Instr) -> BodyInstr
-    ensures { result ≡ Rattle.plan_image.specs.Bodies.leave_open instr }
-{
-    match instr {
-        Instr::Stat(_number) => BodyInstr::Open(Opening::Stat),
-        Instr::Need(_number) => BodyInstr::Open(Opening::Need),
-        Instr::Load(_number) => BodyInstr::Open(Opening::Load),
-        Instr::Store(_number) => BodyInstr::Open(Opening::Store),
-        Instr::Text(_number) => BodyInstr::Open(Opening::Text),
-        fixed => BodyInstr::Fixed(fixed),
     }
 }
 
@@ -195,7 +168,7 @@ pub fn split(alloc: Global, code: &[Instr]) -> Result<(Body, Items<u32>), Memory
     let mut instrs = Vec::with_capacity(alloc, code.len())?;
     let mut numbers = Vec::new(alloc);
     for &instr in code {
-        instrs.push(leave_open(instr))?;
+        instrs.push(instr.leave_open())?;
         push_open(&mut numbers, instr)?;
     }
     let body = Body::new(alloc, instrs)?;

@@ -5,7 +5,6 @@ ghost use Rattle.plan_image.specs.Columns.{lent_instrs};
 
 use crate::image::Sort;
 use crate::instr::Instr;
-use crate::opcode::instr_by;
 
 /// The part of an edge that is not a list. If it names a body, the edge has operands, and otherwise the edge
 /// has its own instructions.
@@ -52,7 +51,7 @@ impl<'a> InstrsRef<'a> {
         ensures found { slice_get (lent_instrs self.now) place ≡ Some result }
         ensures rest { drop place (lent_instrs self.now) ≡ result ∷ drop (place + 1) (lent_instrs self.now) }
     {
-        instr_by(self.opcodes[place], operand_at(self.operands, place))
+        Instr::from_opcode(self.opcodes[place], operand_at(self.operands, place))
     }
 }
 

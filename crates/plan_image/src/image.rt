@@ -7,7 +7,7 @@ ghost use Rattle.plan_image.specs.Code.{instrs_of, body};
 ghost use Rattle.plan_image.specs.Columns.{code_at, lent_code, shared_body};
 ghost use Rattle.plan_image.specs.Spelling.{HasSpelling, IsPrefixFree};
 
-use crate::body::{Body, with_number};
+use crate::body::Body;
 use crate::code_view::{CodeView, Members};
 use crate::edge_ref::{CodeRef, InstrsRef};
 use crate::edges::Edges;
@@ -16,9 +16,6 @@ use crate::instr::{BodyInstr, Instr, Kind};
 use crate::limits::{is_filled, is_in_order, is_within_limits};
 use plan_text::{Items, RowList};
 use std::marker::Model;
-
-/// The most bytes of an image: 256 MiB.
-pub const MAX_IMAGE: usize = 268_435_456;
 
 /// The sort of an edge.
 #[derive(Clone, Copy, Debug, PartialEq, Eq)]
@@ -285,7 +282,7 @@ impl Image {
             Some(BodyInstr::Fixed(instr)) => Some(*instr),
             Some(BodyInstr::Open(opening)) => {
                 let operand = self.parts.edges.operand(edge as usize, rank);
-                Some(with_number(*opening, operand))
+                Some(opening.with_number(operand))
             }
         }
     }

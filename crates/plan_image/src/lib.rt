@@ -3,9 +3,11 @@
 //! - `read_image` reads an image from bytes or returns their first fault. `print_image` writes the bytes of an
 //!   image, and `listing` writes its text.
 //! - `Image` holds tables that have a spelling. `Parts`, `Edge`, `EdgeCode`, `Pool`, `Slot`, `Sort` and
-//!   `Version` are the tables and their items. `MAX_IMAGE` is the most bytes of an image. `Edges` is the table
-//!   of edges, stored in columns, from which `EdgeRef`, `CodeRef` and `InstrsRef` borrow. `CodeView` is the
-//!   code of one edge, in either version.
+//!   `Version` are the tables and their items. `Edges` is the table of edges, stored in columns, from which
+//!   `EdgeRef`, `CodeRef` and `InstrsRef` borrow. `CodeView` is the code of one edge, in either version.
+//! - `MAX_IMAGE` is the most bytes of an image. `MAX_TEXTS`, `MAX_FILES`, `MAX_POOLS`, `MAX_SLOTS`,
+//!   `MAX_BODIES` and `MAX_EDGES` limit the tables, `MAX_TEXT`, `MAX_PATH`, `MAX_DEPTH` and `MAX_BODY` their
+//!   items, and `MAX_BODY_INSTRS`, `MAX_OWN_INSTRS` and `MAX_SHARED_INSTRS` all instructions.
 //! - `Instr` and `Kind` are the instructions of an edge and the kinds of their values. `Body`, `BodyInstr` and
 //!   `Opening` are bodies that edges share. `split` returns the body of a code and its operands.
 //! - `edge_of` finds the edge that creates a path.
@@ -26,6 +28,7 @@ mod instr;
 mod limits;
 mod lister;
 mod makers;
+mod maxima;
 mod opcode;
 mod reading;
 mod sizes;
@@ -36,9 +39,13 @@ pub use code_view::CodeView;
 pub use edge_ref::{CodeRef, EdgeRef, InstrsRef};
 pub use edges::Edges;
 pub use fault::ImageFault;
-pub use image::{Edge, EdgeCode, Image, MAX_IMAGE, Parts, Pool, Slot, Sort, Version, image_law};
+pub use image::{Edge, EdgeCode, Image, Parts, Pool, Slot, Sort, Version, image_law};
 pub use instr::{BodyInstr, Instr, Kind, Opening};
 pub use lister::{WriteFault, listing};
 pub use makers::edge_of;
+pub use maxima::{
+    MAX_BODIES, MAX_BODY, MAX_BODY_INSTRS, MAX_DEPTH, MAX_EDGES, MAX_FILES, MAX_IMAGE,
+    MAX_OWN_INSTRS, MAX_PATH, MAX_POOLS, MAX_SHARED_INSTRS, MAX_SLOTS, MAX_TEXT, MAX_TEXTS,
+};
 pub use reading::read_image;
 pub use writing::print_image;

@@ -11,8 +11,12 @@ ghost use Rattle.plan_image.specs.Spelling.{IsWord, AreWords, CodeFits, IsWithin
 use crate::body::Body;
 use crate::edge_ref::{CodeRef, EdgeRef, InstrsRef};
 use crate::edges::Edges;
-use crate::image::{MAX_IMAGE, Parts, Pool, Slot, instr_count};
+use crate::image::{Parts, Pool, Slot, instr_count};
 use crate::instr::{BodyInstr, Instr};
+use crate::maxima::{
+    MAX_BODIES, MAX_BODY, MAX_BODY_INSTRS, MAX_DEPTH, MAX_EDGES, MAX_FILES, MAX_IMAGE,
+    MAX_OWN_INSTRS, MAX_PATH, MAX_POOLS, MAX_SHARED_INSTRS, MAX_SLOTS, MAX_TEXT, MAX_TEXTS,
+};
 use crate::sizes::parts_room;
 use plan_text::{Items, RowList};
 
@@ -83,7 +87,7 @@ impl RowTest for TextTest {
     ghost holds = { IsText };
 
     fn test(row: &[u8]) -> bool {
-        row.len() <= 1_048_576
+        row.len() <= MAX_TEXT
     }
 }
 
@@ -95,7 +99,7 @@ impl RowTest for FileTest {
     ghost holds = { IsFileName };
 
     fn test(row: &[u8]) -> bool {
-        !row.is_empty() && row.len() <= 4096
+        !row.is_empty() && row.len() <= MAX_PATH
     }
 }
 
@@ -109,7 +113,7 @@ impl Test for PoolTest {
     ghost holds = { PoolFits };
 
     fn test(item: &Pool) -> bool {
-        item.name.len() < 65_536 && item.depth <= 1_000_000
+        item.name.len() < 65_536 && item.depth <= MAX_DEPTH
     }
 }
 
@@ -221,7 +225,7 @@ impl Test for BodyTest {
     ghost holds = { BodyFits };
 
     fn test(item: &Body) -> bool {
-        item.len() <= 65_536 && all::<BodyInstrTest>(item.as_slice())
+        item.len() <= MAX_BODY && all::<BodyInstrTest>(item.as_slice())
     }
 }
 
@@ -242,9 +246,9 @@ fn bodies_within(bodies: &[Body], most: u64) -> bool
 fn table_fits(bodies: &Items<Body>) -> bool
     ensures { IsTrue result ↔ BodiesFit bodies.now }
 {
-    bodies.len() <= 1_048_576
+    bodies.len() <= MAX_BODIES
         && all::<BodyTest>(bodies.as_slice())
-        && bodies_within(bodies.as_slice(), 16_777_216)
+        && bodies_within(bodies.as_slice(), MAX_BODY_INSTRS)
 }
 
 fn bodies_fit(bodies: &Option<Items<Body>>) -> bool
@@ -261,8 +265,8 @@ pub(crate) fn most_code(bodies: &Option<Items<Body>>) -> u64
     ensures { result ≡ Rattle.plan_image.specs.Spelling.most_code bodies.now }
 {
     match bodies {
-        None => 16_777_216,
-        Some(_bodies) => 67_108_864,
+        None => MAX_OWN_INSTRS,
+        Some(_bodies) => MAX_SHARED_INSTRS,
     }
 }
 
@@ -407,11 +411,11 @@ fn instructions_within(bodies: &Option<Items<Body>>, edges: &Edges, most: u64) -
 fn counts_fit(parts: &Parts) -> bool
     ensures { IsTrue result ↔ CountsFit parts.now }
 {
-    parts.texts.len() <= 4_194_304
-        && parts.files.len() <= 4_194_304
-        && parts.pools.len() <= 4096
-        && parts.slots.len() <= 16_777_216
-        && parts.edges.len() <= 1_048_576
+    parts.texts.len() <= MAX_TEXTS
+        && parts.files.len() <= MAX_FILES
+        && parts.pools.len() <= MAX_POOLS
+        && parts.slots.len() <= MAX_SLOTS
+        && parts.edges.len() <= MAX_EDGES
 }
 
 /// Returns whether the lengths and numbers of each item fit their fields and limits.
@@ -428,7 +432,7 @@ fn items_fit(parts: &Parts) -> bool
 
 /// Returns whether the spelling has at most as many bytes as an image may have.
 fn is_spelling_within(parts: &Parts) -> bool
-    ensures { IsTrue result ↔ (length (spelling parts.now) ≤ 268435456) }
+    ensures { IsTrue result ↔ (length (spelling parts.now) ≤ MAX_IMAGE) }
 {
     parts_room(parts, MAX_IMAGE as u64).is_some()
 }

@@ -15,7 +15,8 @@ mod tables;
 mod texts;
 
 use crate::fault::ImageFault;
-use crate::image::{Image, MAX_IMAGE, Parts};
+use crate::image::{Image, Parts};
+use crate::maxima::MAX_IMAGE;
 use crate::reading::stop::ReadFault;
 use crate::reading::tables::read_whole;
 use std::alloc::Global;

@@ -9,6 +9,7 @@ use Rattle.plan_image.specs.declared.instr.Instr.TheVariants as op
 use Rattle.plan_image.specs.declared.image.Parts.{Parts}
 use Rattle.plan_image.specs.Code.{code}
 use Rattle.plan_verify.specs.declared.shape.Shape.{Shape}
+use Rattle.plan_verify.specs.declared.kinds.TheConstants.{MAX_STACK}
 use Rattle.plan_verify.specs.Members.{is_member, with_member}
 use Rattle.plan_verify.specs.Tables.{owns, is_lent, own_slots, slot_kind, path_of, paths_of, outputs_of, first_output, pool_outside}
 use Rattle.plan_verify.specs.Shape.{}
@@ -17,7 +18,7 @@ use Rattle.plan_verify.specs.Shape.{}
 pub record Leads (p : Parts) (e : ℕ) (shapes : List Shape) (place : ℕ) (shape : Shape) : Type 0 where
   pub inside : place < length (code p e)
   pub exact : slice_get shapes place ≡ Some shape
-  pub shallow : length shape.kinds ≤ 64
+  pub shallow : length shape.kinds ≤ MAX_STACK
 
 abbrev pub with_kinds : Shape → List Kind → Shape
 with_kinds s kinds = record { kinds = kinds; holding = s.holding; set = s.set }

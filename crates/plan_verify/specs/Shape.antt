@@ -9,6 +9,7 @@ use Rattle.plan_image.specs.declared.image.Slot.{Slot}
 use Rattle.plan_image.specs.declared.image.Edge.{Edge}
 use Rattle.plan_image.specs.declared.image.Parts.{Parts}
 use Rattle.plan_image.specs.Code.{code}
+use Rattle.plan_verify.specs.declared.kinds.TheConstants.{MAX_STACK}
 use Rattle.plan_verify.specs.declared.shape.Shape.{Shape}
 use Rattle.plan_verify.specs.declared.fault.Refusal.{Refusal}
 use Rattle.plan_verify.specs.declared.fault.Refusal.TheVariants as refusal
@@ -169,7 +170,7 @@ checks p e place i s =
     ∷ (wrong_kind (takes p i) s.kinds, refusal.WrongKind)
     ∷ (unset_slot p e i s.set, refusal.UnsetSlot)
     ∷ (values_left i s.kinds, refusal.ValuesLeft)
-    ∷ (nat_lt 64 (length (kinds_after p i s.kinds)), refusal.TooDeep)
+    ∷ (nat_lt MAX_STACK (length (kinds_after p i s.kinds)), refusal.TooDeep)
     ∷ (falls_off (length (code p e)) place i, refusal.FallsOff)
     ∷ []
 

@@ -8,6 +8,8 @@ use Rattle.plan_image.specs.declared.instr.Instr.TheVariants as op
 use Rattle.plan_image.specs.declared.image.Slot.{Slot}
 use Rattle.plan_image.specs.declared.image.Parts.{Parts}
 use Rattle.plan_image.specs.Code.{code}
+use Rattle.plan_verify.specs.declared.kinds.TheConstants.{MAX_STACK}
+use Rattle.plan_image.specs.declared.maxima.TheConstants.{MAX_TEXT}
 use Rattle.plan_verify.specs.declared.value.Value.{Value}
 use Rattle.plan_verify.specs.declared.value.Value.TheVariants.{Stamp, Flag, Text, Paths, Swept}
 use Rattle.plan_verify.specs.declared.value.Cause.{Cause}
@@ -126,7 +128,7 @@ same_text _ _ = false
 
 -- the first text and then the second, if the result isn't too long for a text
 abbrev pub joined : List ℕ → List ℕ → List Value → Calculated
-joined a b below = if nat_lt 1048576 (length a + length b) then TooLong else On (Text (a ++ b) ∷ below)
+joined a b below = if nat_lt MAX_TEXT (length a + length b) then TooLong else On (Text (a ++ b) ∷ below)
 
 -- an instruction that calculates nothing leaves the stack unchanged
 abbrev pub calculate : Instr → List Value → Calculated
@@ -162,7 +164,7 @@ calculate i stack = On stack
 -- continues at a place, with this stack
 abbrev pub goes : Local → ℕ → List Value → Turn
 goes l to stack =
-    if nat_lt 64 (length stack) then Wrong TooDeep
+    if nat_lt MAX_STACK (length stack) then Wrong TooDeep
     else Goes Moved (record { place = to; stack = stack; holding = l.holding; ran = l.ran; asked = false })
 
 -- continues at the next place

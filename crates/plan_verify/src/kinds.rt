@@ -7,21 +7,25 @@ use arrayvec::ArrayVec;
 use plan_image::Kind;
 use std::marker::Model;
 
-/// The kinds of at most 64 values, the top of the stack first.
+/// The most values on the stack of an edge.
+pub const MAX_STACK: usize = 64;
+
+/// The kinds of at most `MAX_STACK` values, the top of the stack first.
 #[derive(Drop)]
 pub struct Kinds {
-    held: ArrayVec<Kind, 64>,
+    held: ArrayVec<Kind, MAX_STACK>,
 }
 
 impl Model for Kinds {
     ghost use Rattle.std.specs.Prelude.{List, reverse, length, ◌≤◌};
     ghost use Rattle.plan_image.specs.declared.instr.Kind.{Kind};
+    ghost use Rattle.plan_verify.specs.declared.kinds.TheConstants.{MAX_STACK};
 
     ghost Value = { List Kind };
 
     ghost view = { λ k. reverse k.held.items };
 
-    ghost invariant = { λ k. length k.held.items ≤ 64 };
+    ghost invariant = { λ k. length k.held.items ≤ MAX_STACK };
 }
 
 impl Kinds {
@@ -37,14 +41,14 @@ impl Kinds {
     /// Returns the number of kinds.
     pub(crate) fn len(&self) -> usize
         ensures value { result ≡ length self.now }
-        ensures fits { result ≤ 64 }
+        ensures fits { result ≤ MAX_STACK }
     {
         self.held.len()
     }
 
     /// Pushes a kind, which must fit.
     pub(crate) fn push(&mut self, kind: Kind)
-        requires { length self.old < 64 }
+        requires { length self.old < MAX_STACK }
         ensures { self.new ≡ kind ∷ self.old }
     {
         self.held.push(kind);

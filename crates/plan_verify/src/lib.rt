@@ -4,7 +4,7 @@
 //!   image and a `VerifyFault`: the first check that fails, as a `Refusal`, with its edge and place.
 //!   `verify_by` does the same in several threads.
 //! - `Value` is a value on an edge's stack or in a slot. `Cause` is the reason why an edge fails. `Shape` is
-//!   what the verifier knows about an edge at a place.
+//!   what the verifier knows about an edge at a place. `MAX_STACK` is the most values on a stack.
 //! - The laws are about each edge of a verified image, for the proofs of the crates above. An edge that is run
 //!   alone never goes wrong and stays within its budget, and its tables are in range.
 //!
@@ -30,7 +30,7 @@ mod value;
 mod verified;
 
 pub use fault::{Refusal, VerifyFault};
-pub use kinds::Kinds;
+pub use kinds::{Kinds, MAX_STACK};
 pub use laws::{
     all_turns_pay, codes_are_short, goes_on_alone, hears_what_suits, instructions_fit,
     never_wrong_alone, questions_ignore_slots, refusals_are_true, replies_are_safe,

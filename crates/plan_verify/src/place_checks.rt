@@ -10,7 +10,7 @@ ghost use Rattle.plan_verify.specs.OwnSet.{IsOwnSet};
 ghost use Rattle.plan_verify.specs.Wanted.{options};
 
 use crate::fault::Refusal;
-use crate::kinds::Kinds;
+use crate::kinds::{Kinds, MAX_STACK};
 use crate::shape::Shape;
 use crate::slot_set::SlotSet;
 use crate::slot_tree::has_number;
@@ -326,7 +326,7 @@ pub(crate) fn refusal_at(
     if has_values_left(instr, &shape.kinds) {
         return Some(Refusal::ValuesLeft);
     }
-    if 64 < len_after(parts, instr, &shape.kinds) {
+    if MAX_STACK < len_after(parts, instr, &shape.kinds) {
         return Some(Refusal::TooDeep);
     }
     if goes_past(len, place, instr) {

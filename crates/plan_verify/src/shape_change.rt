@@ -3,7 +3,7 @@
 ghost use Rattle.std.specs.Prelude.{◌≡◌, ◌+◌, ◌<◌, ◌≤◌, ◌∷◌, OnOk, drop, length};
 ghost use Rattle.plan_verify.specs.Shape.{kinds_after, holding_after, set_after, left};
 
-use crate::kinds::Kinds;
+use crate::kinds::{Kinds, MAX_STACK};
 use crate::place_checks::kind_of_slot;
 use crate::shape::Shape;
 use crate::slot_set::SlotSet;
@@ -12,7 +12,7 @@ use std::alloc::{AllocError, Global};
 
 /// Replaces the top `count` kinds by one kind.
 fn replace(kinds: &mut Kinds, count: usize, kind: Kind)
-    requires { length (drop count kinds.old) < 64 }
+    requires { length (drop count kinds.old) < MAX_STACK }
     ensures { kinds.new ≡ kind ∷ drop count kinds.old }
 {
     kinds.cut(count);
@@ -21,7 +21,7 @@ fn replace(kinds: &mut Kinds, count: usize, kind: Kind)
 
 /// Pushes the kinds of an entry of the record.
 fn push_entry(kinds: &mut Kinds)
-    requires { length kinds.old + 4 ≤ 64 }
+    requires { length kinds.old + 4 ≤ MAX_STACK }
     ensures { kinds.new ≡ Kind.Flag ∷ Kind.Text ∷ Kind.Stamp ∷ Kind.Paths ∷ kinds.old }
 {
     kinds.push(Kind::Paths);
@@ -32,7 +32,7 @@ fn push_entry(kinds: &mut Kinds)
 
 /// Replaces the kinds of unswept paths by those of swept paths.
 fn replace_swept(kinds: &mut Kinds)
-    requires { length (drop 3 kinds.old) + 3 ≤ 64 }
+    requires { length (drop 3 kinds.old) + 3 ≤ MAX_STACK }
     ensures { kinds.new ≡ Kind.Swept ∷ Kind.Flag ∷ Kind.Stamp ∷ drop 3 kinds.old }
 {
     kinds.cut(3);
@@ -43,7 +43,7 @@ fn replace_swept(kinds: &mut Kinds)
 
 /// Changes the kinds on the stack as an instruction does.
 fn change_kinds(parts: &Parts, instr: Instr, kinds: &mut Kinds)
-    requires { length (kinds_after parts.now instr kinds.old) ≤ 64 }
+    requires { length (kinds_after parts.now instr kinds.old) ≤ MAX_STACK }
     ensures { kinds.new ≡ kinds_after parts.now instr kinds.old }
 {
     match instr {
@@ -95,7 +95,7 @@ pub(crate) fn change(
     instr: Instr,
     shape: &mut Shape,
 ) -> Result<(), AllocError>
-    requires { length (kinds_after parts.now instr shape.old.kinds) ≤ 64 }
+    requires { length (kinds_after parts.now instr shape.old.kinds) ≤ MAX_STACK }
     ensures { OnOk result (shape.new ≡ left parts.now instr shape.old) }
 {
     change_set(alloc, instr, &mut shape.set)?;

@@ -5,7 +5,7 @@ ghost use Rattle.plan_text.specs.Sinks.{Writes};
 ghost use Rattle.plan_image.specs.Columns.{lent, lent_instrs};
 ghost use Rattle.plan_image.specs.Listing.{edge_lines, instr_line, numbered, open_line, shared_words};
 
-use crate::body::{Body, with_number};
+use crate::body::Body;
 use crate::edge_ref::{CodeRef, EdgeRef, InstrsRef};
 use crate::edges::Edges;
 use crate::image::{Pool, Slot};
@@ -54,7 +54,7 @@ fn write_instr<W: Sink>(place: usize, instr: Instr, out: &mut W) -> Result<(), W
 fn write_open<W: Sink>(place: usize, opening: Opening, out: &mut W) -> Result<(), WriteFault>
     ensures { Writes (is_ok result) (W.failures out.old, W.taken out.old) (W.failures out.new, W.taken out.new) (open_line place opening) }
 {
-    let name = Spaced(Word(name_of(with_number(opening, 0))), Word(b"_"));
+    let name = Spaced(Word(name_of(opening.with_number(0))), Word(b"_"));
     (Word(b"  "), Line(Spaced(Number(place as u64), name))).write(out)
 }
 

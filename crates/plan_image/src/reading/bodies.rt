@@ -6,6 +6,7 @@ ghost use Rattle.std.specs.Prelude.{◌+◌, ◌^◌};
 use crate::body::Body;
 use crate::fault::Cause;
 use crate::image::Version;
+use crate::maxima::{MAX_BODIES, MAX_BODY, MAX_BODY_INSTRS};
 use crate::reading::fields::read_u32_up_to;
 use crate::reading::items::{InTurn, read_in_turn, read_items};
 use crate::reading::stop::{ReadFault, stop_at};
@@ -16,7 +17,8 @@ use std::alloc::Global;
 pub(crate) struct Bodies;
 
 impl InTurn for Bodies {
-    ghost use Rattle.std.specs.Prelude.{◌+◌, ◌^◌, length};
+    ghost use Rattle.std.specs.Prelude.{◌+◌, length};
+    ghost use Rattle.plan_image.specs.declared.maxima.TheConstants.{MAX_BODY_INSTRS};
     ghost use Rattle.plan_image.specs.Reading.{body_at};
 
     type Item = Body;
@@ -25,7 +27,7 @@ impl InTurn for Bodies {
 
     ghost next = { λ _ used b. used + length b };
 
-    ghost most = { λ _. 2 ^ 24 };
+    ghost most = { λ _. MAX_BODY_INSTRS };
 
     fn shortest(&self) -> usize {
         4
@@ -38,8 +40,8 @@ impl InTurn for Bodies {
         before: u64,
         bytes: &'a [u8],
     ) -> Result<(Body, u64, &'a [u8]), ReadFault> {
-        let (count, rest) = read_u32_up_to(65_536, bytes)?;
-        let left = 16_777_216 - before;
+        let (count, rest) = read_u32_up_to(MAX_BODY as u32, bytes)?;
+        let left = MAX_BODY_INSTRS - before;
         if left < u64::from(count) {
             return Err(stop_at(Cause::Limit, bytes));
         }
@@ -56,7 +58,7 @@ pub(crate) fn read_body_table(
 ) -> Result<(Items<Body>, &[u8]), ReadFault>
     ensures { Gives (λ x. (x.0, x.1.now)) result (body_table_at bytes.now) }
 {
-    let (count, rest) = read_u32_up_to(1_048_576, bytes)?;
+    let (count, rest) = read_u32_up_to(MAX_BODIES as u32, bytes)?;
     read_in_turn(alloc, &Bodies, 0, count, rest)
 }
 

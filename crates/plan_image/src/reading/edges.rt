@@ -11,6 +11,7 @@ use crate::edge_ref::{CodeRef, EdgeRef, Head, InstrsRef};
 use crate::edges::Edges;
 use crate::fault::Cause;
 use crate::image::instr_count;
+use crate::maxima::{MAX_EDGES, MAX_OWN_INSTRS, MAX_SHARED_INSTRS};
 use crate::opcode::push_instr;
 use crate::reading::fields::{read_sort, read_u32, read_u32_up_to};
 use crate::reading::instrs::read_instr;
@@ -95,11 +96,11 @@ fn read_own_code<'a>(
     operands: &mut Vec<u32>,
     bytes: &'a [u8],
 ) -> Result<&'a [u8], ReadFault>
-    requires { used ≤ 2 ^ 24 }
+    requires { used ≤ MAX_OWN_INSTRS }
     ensures code { Gives (λ rest. (code_by None opcodes.new.items operands.new.items, rest.now)) result (own_code_at used bytes.now) }
-    ensures most { OnOk result (used + length opcodes.new.items ≤ 2 ^ 24) }
+    ensures most { OnOk result (used + length opcodes.new.items ≤ MAX_OWN_INSTRS) }
 {
-    let most = 16_777_216 - used as u32;
+    let most = MAX_OWN_INSTRS as u32 - used as u32;
     let (count, rest) = read_u32_up_to(most, bytes)?;
     fill_instrs(count as usize, opcodes, operands, rest)
 }
@@ -115,12 +116,12 @@ fn read_operands<'a>(
     bytes: &[u8],
     rest: &'a [u8],
 ) -> Result<(u32, &'a [u8]), ReadFault>
-    requires { used ≤ 2 ^ 26 }
+    requires { used ≤ MAX_SHARED_INSTRS }
     ensures code { Gives (λ x. (code_by (Some x.0) [] operands.new.items, x.1.now)) result (numbers_for used number len count bytes.now rest.now) }
-    ensures most { OnOk result (used + len ≤ 2 ^ 26) }
+    ensures most { OnOk result (used + len ≤ MAX_SHARED_INSTRS) }
     ensures number { IfOk result (λ x. x.0 ≡ number) }
 {
-    let left = 67_108_864 - used;
+    let left = MAX_SHARED_INSTRS - used;
     if left < len as u64 {
         return Err(stop_at(Cause::Limit, bytes));
     }
@@ -137,9 +138,9 @@ fn read_shared_code<'a>(
     operands: &mut Vec<u32>,
     bytes: &'a [u8],
 ) -> Result<(u32, &'a [u8]), ReadFault>
-    requires { used ≤ 2 ^ 26 }
+    requires { used ≤ MAX_SHARED_INSTRS }
     ensures code { Gives (λ x. (code_by (Some x.0) [] operands.new.items, x.1.now)) result (shared_code_at bodies.now used bytes.now) }
-    ensures most { IfOk result (λ x. used + length (body (Some bodies.now) x.0) ≤ 2 ^ 26) }
+    ensures most { IfOk result (λ x. used + length (body (Some bodies.now) x.0) ≤ MAX_SHARED_INSTRS) }
 {
     let (number, rest) = read_u32(bytes)?;
     match bodies.get(number as usize) {
@@ -253,6 +254,6 @@ pub(crate) fn read_edges<'a>(
 ) -> Result<(Edges, &'a [u8]), ReadFault>
     ensures { Gives (λ x. (x.0, x.1.now)) result (edges_at bodies.now bytes.now) }
 {
-    let (count, rest) = read_u32_up_to(1_048_576, bytes)?;
+    let (count, rest) = read_u32_up_to(MAX_EDGES as u32, bytes)?;
     read_each_edge(alloc, bodies, count, rest)
 }

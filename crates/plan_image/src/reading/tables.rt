@@ -4,6 +4,7 @@ ghost use Rattle.plan_image.specs.Reading.{Gives, pool_at, version_at, head_at, 
 
 use crate::fault::Cause;
 use crate::image::{Parts, Pool, Slot, Version};
+use crate::maxima::{MAX_DEPTH, MAX_FILES, MAX_POOLS, MAX_SLOTS, MAX_TEXTS};
 use crate::reading::bodies::read_bodies;
 use crate::reading::edges::read_edges;
 use crate::reading::fields::{
@@ -41,7 +42,7 @@ pub(crate) fn read_pool(alloc: Global, bytes: &[u8]) -> Result<(Pool, &[u8]), Re
 {
     let (len, rest) = read_u16(bytes)?;
     let (name, rest) = read_bytes(usize::from(len), rest)?;
-    let (depth, rest) = read_u32_up_to(1_000_000, rest)?;
+    let (depth, rest) = read_u32_up_to(MAX_DEPTH, rest)?;
     let name = Items::new(Vec::from_slice(alloc, name)?);
     Ok((Pool { name, depth }, rest))
 }
@@ -91,10 +92,10 @@ pub(crate) fn read_parts(alloc: Global, bytes: &[u8]) -> Result<(Parts, &[u8]), 
     ensures { Gives (λ x. (x.0, x.1.now)) result (parts_at bytes.now) }
 {
     let (version, rest) = read_head(bytes)?;
-    let (texts, rest) = read_texts::<Text>(alloc, 4_194_304, rest)?;
-    let (files, rest) = read_texts::<FileName>(alloc, 4_194_304, rest)?;
-    let (pools, rest) = read_table(alloc, 4096, rest)?;
-    let (slots, rest) = read_table(alloc, 16_777_216, rest)?;
+    let (texts, rest) = read_texts::<Text>(alloc, MAX_TEXTS as u32, rest)?;
+    let (files, rest) = read_texts::<FileName>(alloc, MAX_FILES as u32, rest)?;
+    let (pools, rest) = read_table(alloc, MAX_POOLS as u32, rest)?;
+    let (slots, rest) = read_table(alloc, MAX_SLOTS as u32, rest)?;
     let (bodies, rest) = read_bodies(alloc, version, rest)?;
     let (edges, rest) = read_edges(alloc, &bodies, rest)?;
     let (defaults, rest) = read_ascending(alloc, rest)?;

@@ -4,6 +4,7 @@ ghost use Rattle.plan_image.specs.Reading.{Gives, items_at, table_at};
 ghost use Rattle.std.specs.Prelude.{◌<◌};
 
 use crate::fault::Cause;
+use crate::maxima::{MAX_PATH, MAX_TEXT};
 use crate::reading::fields::{read_bytes, read_u16_up_to, read_u32_up_to};
 use crate::reading::items::room;
 use crate::reading::stop::{ReadFault, stop_at};
@@ -26,7 +27,7 @@ pub(crate) trait TextField {
         ensures { Gives (λ x. (x.0.now, x.1.now)) result (read_at bytes.now) };
 }
 
-/// A text of at most 1,048,576 bytes.
+/// A text of at most `MAX_TEXT` bytes.
 pub(crate) struct Text;
 
 impl TextField for Text {
@@ -40,12 +41,12 @@ impl TextField for Text {
 
     #[tactic(auto, unfolding(crate::specs::Reading::text_at))]
     fn read(bytes: &[u8]) -> Result<(&[u8], &[u8]), ReadFault> {
-        let (len, rest) = read_u32_up_to(1_048_576, bytes)?;
+        let (len, rest) = read_u32_up_to(MAX_TEXT as u32, bytes)?;
         read_bytes(len as usize, rest)
     }
 }
 
-/// A file name of 1 to 4,096 bytes.
+/// A file name of 1 to `MAX_PATH` bytes.
 pub(crate) struct FileName;
 
 impl TextField for FileName {
@@ -59,7 +60,7 @@ impl TextField for FileName {
 
     #[tactic(auto, unfolding(crate::specs::Reading::file_at))]
     fn read(bytes: &[u8]) -> Result<(&[u8], &[u8]), ReadFault> {
-        let (len, rest) = read_u16_up_to(4096, bytes)?;
+        let (len, rest) = read_u16_up_to(MAX_PATH as u16, bytes)?;
         if len == 0 {
             return Err(stop_at(Cause::Limit, bytes));
         }

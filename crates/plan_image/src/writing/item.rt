@@ -101,13 +101,8 @@ impl Spelled for Instr {
 const fn opening_byte(opening: Opening) -> u8
     ensures { result ≡ Rattle.plan_image.specs.Spelling.opening_byte opening }
 {
-    match opening {
-        Opening::Stat => 1,
-        Opening::Need => 2,
-        Opening::Load => 3,
-        Opening::Store => 4,
-        Opening::Text => 15,
-    }
+    let (opcode, _zero) = opening.with_number(0).opcode_and_operand();
+    opcode
 }
 
 impl Spelled for BodyInstr {

@@ -73,7 +73,7 @@ returns-in_err-coded-clause-refused c =
     let codes : List Build → List (List Instr) = λ xs. codes_in (table xs) ks (newest_from zero xs) xs in
     let fault : CompileFault = c.in_err-coded.field-0.0 in
     let refused : RefusesEdges fault t.edges (codes t.edges) = subst (λ (xs : List Build). RefusesEdges fault xs (codes xs)) all c.in_err-coded.ensures.refused in
-    let few : length g.files ≤ 4194304 = omega (arith, c.if-len-gt-MOST_FILES.false, c.len.ensures) in
+    let few : length g.files ≤ 4194304 = omega (arith, c.if-len-gt-MAX_FILES.false, c.len.ensures) in
     let p = err_from_is_err_and c.from_residual-in_err-coded.result c.from_residual-in_err-coded.ensures.1 in
     subst (λ r. IfErr r (λ (f : CompileFault). IsRefused c.args.rule m g f)) (sym (p.1 ∙ ap (λ e. Err e) p.2))
     (edges_refused c.args.rule m g fault (codes t.edges) few (all_codes t sound c.len-3.result (table t.edges) ks (newest_from zero t.edges) count refl numbers refl) refused)
@@ -82,6 +82,6 @@ pub returns-in_err-tables-clause-refused : goal.returns-in_err-tables-clause-ref
 returns-in_err-tables-clause-refused c =
     let m = c.args.manifest.now in
     let g = c.args.graph.now in
-    let few : length g.files ≤ 4194304 = omega (arith, c.if-len-gt-MOST_FILES.false, c.len.ensures) in
+    let few : length g.files ≤ 4194304 = omega (arith, c.if-len-gt-MAX_FILES.false, c.len.ensures) in
     let p = err_from_is_err_and c.from_residual-in_err-tables.result c.from_residual-in_err-tables.ensures.1 in
     subst (λ r. IfErr r (λ (f : CompileFault). IsRefused c.args.rule m g f)) (sym (p.1 ∙ ap (λ e. Err e) p.2)) few

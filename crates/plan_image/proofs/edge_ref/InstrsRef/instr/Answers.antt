@@ -1,6 +1,7 @@
 use Rattle.std.proofs.Common.{◌<◌, ◌+◌, ◌∷◌, ◌∙◌, Some, ap, arith, drop, get_or, length, sym}
 use Rattle.std.proofs.lemmas.List.{get_or_default}
-use Rattle.plan_image.specs.Columns.{instr_by, instr_with, lent_instrs}
+use Rattle.plan_image.specs.Opcodes.{instr_by}
+use Rattle.plan_image.specs.Columns.{instr_with, lent_instrs}
 use Rattle.plan_image.proofs.ColumnLemmas.{drop_by, found_by, length_by}
 use Rattle.plan_image.proofs.edge_ref.InstrsRef.instr.Goals as goal
 
@@ -17,7 +18,7 @@ returns-clause-found c =
     let long = length_by f 0 os in
     let here : n < length os = omega (arith, c.requires, long) in
     found_by f os n (get_or os n 0) here (get_or_default os n 0 (get_or os n 0) here)
-    ∙ ap Some (sym (c.instr_by.ensures ∙ ap (instr_by (get_or os n 0)) c.operand_at.ensures))
+    ∙ ap Some (sym (c.from_opcode.ensures ∙ ap (instr_by (get_or os n 0)) c.operand_at.ensures))
 
 pub returns-clause-rest : goal.returns-clause-rest
 returns-clause-rest c =
@@ -27,4 +28,4 @@ returns-clause-rest c =
     let long = length_by f 0 os in
     let here : n < length os = omega (arith, c.requires, long) in
     drop_by f os n (get_or os n 0) here (get_or_default os n 0 (get_or os n 0) here)
-    ∙ ap (λ i. i ∷ drop (n + 1) (lent_instrs c.args.self.now)) (sym (c.instr_by.ensures ∙ ap (instr_by (get_or os n 0)) c.operand_at.ensures))
+    ∙ ap (λ i. i ∷ drop (n + 1) (lent_instrs c.args.self.now)) (sym (c.from_opcode.ensures ∙ ap (instr_by (get_or os n 0)) c.operand_at.ensures))
