@@ -19,7 +19,7 @@ use Rattle.plan_machine.specs.Step.{Next, step}
 use Rattle.plan_machine.specs.Wanted.{any_outside}
 use Rattle.plan_lanes.specs.Boards.{AreNumbers, IsJournaled, IsKept, MayJournal}
 use Rattle.plan_lanes.specs.Journals.{Rule, IsLastOf}
-use Rattle.plan_lanes.specs.Progress.{Progress, progress}
+use Rattle.plan_lanes.specs.Progress.{Progress, opened_with, progress}
 use Rattle.plan_lanes.specs.ObservableMarks.{observable}
 use Rattle.plan_lanes.proofs.JournalLemmas.{allowed_more, allowed_none, last_before, last_here}
 use Rattle.plan_lanes.proofs.ListLemmas.{get_other, get_set}
@@ -132,7 +132,7 @@ pub kept_of : (rule : Rule) (numbers : List ℕ) (next : Running) (b : Progress)
     → IsRecorded rule numbers (record { opened = b.opened; state = next.run_state.now; journal = journal; marks = marks }) → next.run_state.limits ≡ b.opened.limits → IsStateOf b.opened.parts next
     → IsKept rule numbers next (progress b.opened.parts b.opened.targets next.run_state journal marks)
 kept_of rule numbers next b journal marks inside recorded limits state =
-    subst (λ (l : Limits). IsKept rule numbers next (record { opened = record { parts = b.opened.parts; limits = l; targets = b.opened.targets }; state = next.run_state.now; journal = journal; marks = marks })) (sym limits)
+    subst (λ (l : Limits). IsKept rule numbers next (record { opened = opened_with b.opened.parts l b.opened.targets; state = next.run_state.now; journal = journal; marks = marks })) (sym limits)
     (record { inside = inside; journaled = recorded.journaled; numbered = recorded.numbered; all = recorded.all; state = state })
 
 -- a board that one event more was applied to

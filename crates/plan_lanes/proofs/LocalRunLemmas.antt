@@ -30,7 +30,7 @@ use Rattle.plan_lanes.specs.declared.board.Advance.TheVariants.{Moved, Job, Wait
 use Rattle.plan_lanes.specs.Advances.{Advances}
 use Rattle.plan_lanes.specs.Boards.{Applies, AreNumbers, IsKept, IsNumbered, IsOpen, MayJournal}
 use Rattle.plan_lanes.specs.Journals.{IsLastOf, Rule}
-use Rattle.plan_lanes.specs.Progress.{Opened, Progress, run_state_of, progress}
+use Rattle.plan_lanes.specs.Progress.{Opened, Progress, opened_with, progress, run_state_of}
 use Rattle.plan_lanes.specs.LocalRuns.{AppliesAll, GoesOn}
 use Rattle.plan_lanes.specs.StampRows.{HaveStamps}
 use Rattle.plan_lanes.specs.ObservableMarks.{observable}
@@ -200,14 +200,11 @@ pub all_so : (p : Parts) (targets : List ℕ) (r next : RunState) (journal longe
 all_so p targets r next journal longer marks more b xs ms same run events told =
     subst (λ (w : Progress). AppliesAll w (progress p targets next longer more) xs ms) same
     (record {
-      opened = ap (λ (l : Limits). opened_by p l targets) run.limits;
+      opened = ap (λ (l : Limits). opened_with p l targets) run.limits;
       run = run.run;
       journal = events;
       marks = told;
     })
-  where
-    opened_by : Parts → Limits → List ℕ → Opened
-    opened_by parts limits all = record { parts = parts; limits = limits; targets = all }
 
 pub still_so : (p : Parts) (targets : List ℕ) (r next : RunState) (journal : List Event) (marks : List Mark) (b : Progress) (e : ℕ) (local_run : LocalRun) → progress p targets r journal marks ≡ b
     → RunsTo p r (local_run_events e local_run) (local_run_marks e local_run) next → is_still local_run ≡ true → AppliesAll b (progress p targets next journal marks) (local_run_events e local_run) (local_run_marks e local_run)

@@ -19,7 +19,7 @@ use Rattle.plan_lanes.specs.declared.fault.LaneFault.TheVariants.{NoLane}
 use Rattle.plan_lanes.specs.Faults.{number_of}
 use Rattle.plan_lanes.specs.Journals.{Rule, IsLastOf, IsAllowed}
 use Rattle.plan_lanes.specs.Proceeds as proceeds
-use Rattle.plan_lanes.specs.Progress.{Progress}
+use Rattle.plan_lanes.specs.Progress.{Progress, opened_with}
 use Rattle.plan_lanes.specs.Questions.{is_run, shown}
 use Rattle.plan_lanes.specs.Running.{awaits_run}
 use Rattle.plan_lanes.specs.LocalRuns.{AppliesAll}
@@ -114,10 +114,10 @@ none_ahead have = let clash : reply.Stamp 7 ≡ reply.Stamp 8 = have.0 1 in cc
 -- ---- many events at once
 
 fresh : Progress
-fresh = record { opened = record { parts = one; limits = record { jobs = 1; keep = 0 }; targets = 0 ∷ [] }; state = first; journal = []; marks = [] }
+fresh = record { opened = opened_with one (record { jobs = 1; keep = 0 }) (0 ∷ []); state = first; journal = []; marks = [] }
 
 later : Progress
-later = record { opened = record { parts = one; limits = record { jobs = 1; keep = 0 }; targets = 0 ∷ [] }; state = asking; journal = Start 0 ∷ Step 0 ∷ []; marks = [] }
+later = record { opened = opened_with one (record { jobs = 1; keep = 0 }) (0 ∷ []); state = asking; journal = Start 0 ∷ Step 0 ∷ []; marks = [] }
 
 -- the edge starts and asks, and neither mark is observable
 both_applied : AppliesAll fresh later (Start 0 ∷ Step 0 ∷ []) (mark.Started 0 ∷ mark.Asked 0 ∷ [])

@@ -13,7 +13,10 @@ pub record Opened : Type 0 where
   pub limits : Limits
   pub targets : List ℕ
 
--- and how far it is: its state, its events, and their observable marks
+abbrev pub opened_with : Parts → Limits → List ℕ → Opened
+opened_with parts limits targets = record { parts = parts; limits = limits; targets = targets }
+
+-- how far a run is: what it was opened with, its state, its events, and their observable marks
 pub record Progress : Type 0 where
   pub opened : Opened
   pub state : State
@@ -25,4 +28,4 @@ abbrev pub run_state_of : Progress → RunState
 run_state_of b = record { limits = b.opened.limits; now = b.state }
 
 abbrev pub progress : Parts → List ℕ → RunState → List Event → List Mark → Progress
-progress p targets g journal marks = record { opened = record { parts = p; limits = g.limits; targets = targets }; state = g.now; journal = journal; marks = marks }
+progress p targets g journal marks = record { opened = opened_with p g.limits targets; state = g.now; journal = journal; marks = marks }

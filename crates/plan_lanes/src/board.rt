@@ -16,7 +16,7 @@ ghost use Rattle.plan_lanes.specs.Advances.{Advances, WouldAsk};
 ghost use Rattle.plan_lanes.specs.Boards.{Applies, IsFresh, IsOpen, MayJournal};
 ghost use Rattle.plan_lanes.specs.Journals.{IsLastOf};
 ghost use Rattle.plan_lanes.specs.Proceeds.{Proceeds};
-ghost use Rattle.plan_lanes.specs.Progress.{Opened, run_state_of};
+ghost use Rattle.plan_lanes.specs.Progress.{Opened, opened_with, run_state_of};
 ghost use Rattle.plan_lanes.specs.Questions.{is_run, shown};
 ghost use Rattle.plan_lanes.specs.Reports.{IsKeptBy, IsRunOf, IsTotalOf};
 ghost use Rattle.plan_lanes.specs.LocalRuns.{GoesOn};
@@ -163,7 +163,7 @@ impl<'v, W: World> Board<'v, W> {
         options: Options,
         targets: &[u32],
     ) -> Result<Board<'v, W>, Refused>
-        ensures opens { IfOk result (λ b. IsFresh (record { parts = image.now; limits = options; targets = targets.now }) b) }
+        ensures opens { IfOk result (λ b. IsFresh (opened_with image.now options targets.now) b) }
         ensures refused { IfErr result (λ r. ((r ≡ Refused.Memory) × (any_outside image.now targets.now ≡ false)) ⊎ ((r ≡ Refused.BadTarget) × (any_outside image.now targets.now ≡ true))) }
     {
         let state = State::open(alloc, image, options, targets)?;

@@ -7,7 +7,7 @@ ghost use Rattle.plan_machine.specs.State.{has_ended};
 ghost use Rattle.plan_lanes.specs.SharedRuns.{IsSharedRun, IsLeft};
 ghost use Rattle.plan_lanes.specs.Faults.{FaultReports, fault_of, report_of};
 ghost use Rattle.plan_lanes.specs.Batches.{Takes};
-ghost use Rattle.plan_lanes.specs.Progress.{Opened};
+ghost use Rattle.plan_lanes.specs.Progress.{Opened, opened_with};
 ghost use Rattle.plan_lanes.specs.Reports.{IsKeptBy, IsRunOf};
 
 use crate::batch::{Batch, BatchItem};
@@ -60,9 +60,9 @@ pub fn run_lanes<W: World + Send + Sync, R: Threads + Wait + Sync>(
     targets: &[u32],
     world: &W,
 ) -> Result<Report, LaneFault>
-    ensures run { IfOk result (λ r. IsRunOf W.allows (record { parts = image.now; limits = options; targets = targets.now }) r) }
+    ensures run { IfOk result (λ r. IsRunOf W.allows (opened_with image.now options targets.now) r) }
     ensures ended { IfOk result (λ r. has_ended r.state.run_state.now ≡ true) }
-    ensures fault { IfErr result (λ f. FaultReports W.allows (record { parts = image.now; limits = options; targets = targets.now }) f) }
+    ensures fault { IfErr result (λ f. FaultReports W.allows (opened_with image.now options targets.now) f) }
     ensures kept { IfOk result (λ r. IsKeptBy W.keeps r) }
     ensures kept_so_far { IfErr result (λ f. IfSome (report_of f) (λ r. IsKeptBy W.keeps r)) }
 {

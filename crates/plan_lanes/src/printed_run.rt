@@ -5,7 +5,7 @@ ghost use Rattle.plan_machine.specs.State.{has_ended};
 ghost use Rattle.plan_status.specs.Live.{IsUnused, SameFeed};
 ghost use Rattle.plan_lanes.specs.SharedRuns.{FaultIsFed, ReportIsFed};
 ghost use Rattle.plan_lanes.specs.Faults.{FaultReports, report_of};
-ghost use Rattle.plan_lanes.specs.Progress.{Opened};
+ghost use Rattle.plan_lanes.specs.Progress.{Opened, opened_with};
 ghost use Rattle.plan_lanes.specs.Reports.{IsKeptBy, IsRunOf};
 
 use crate::board::{Board, Report};
@@ -63,8 +63,8 @@ impl<'v, W: World> PrintedRun<'v, W> {
         feed: Feed,
     ) -> Result<PrintedRun<'v, W>, (Refused, Feed)>
         requires { IsUnused feed }
-        ensures opens { IfOk result (λ r. r ≡ ready (record { parts = image.now; limits = options; targets = targets.now }) feed) }
-        ensures refused { IfErr result (λ e. FaultReports W.allows (record { parts = image.now; limits = options; targets = targets.now }) (Opening e.0)) }
+        ensures opens { IfOk result (λ r. r ≡ ready (opened_with image.now options targets.now) feed) }
+        ensures refused { IfErr result (λ e. FaultReports W.allows (opened_with image.now options targets.now) (Opening e.0)) }
         ensures back { IfErr result (λ e. e.1 ≡ feed) }
     {
         let board: Board<'v, W> = match Board::open(alloc, image, options, targets) {
@@ -155,9 +155,9 @@ pub fn run_lanes_shown<W: World + Send + Sync, R: Threads + Wait + Sync>(
     feed: Feed,
 ) -> (Result<Report, LaneFault>, Feed)
     requires { IsUnused feed }
-    ensures run { IfOk result.0 (λ r. IsRunOf W.allows (record { parts = image.now; limits = options; targets = targets.now }) r) }
+    ensures run { IfOk result.0 (λ r. IsRunOf W.allows (opened_with image.now options targets.now) r) }
     ensures ended { IfOk result.0 (λ r. has_ended r.state.run_state.now ≡ true) }
-    ensures fault { IfErr result.0 (λ f. FaultReports W.allows (record { parts = image.now; limits = options; targets = targets.now }) f) }
+    ensures fault { IfErr result.0 (λ f. FaultReports W.allows (opened_with image.now options targets.now) f) }
     ensures kept { IfOk result.0 (λ r. IsKeptBy W.keeps r) }
     ensures kept_so_far { IfErr result.0 (λ f. IfSome (report_of f) (λ r. IsKeptBy W.keeps r)) }
     ensures same { SameFeed feed result.1 }

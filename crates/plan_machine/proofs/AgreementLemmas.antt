@@ -20,7 +20,8 @@ use Rattle.plan_machine.specs.Step.{ended}
 use Rattle.plan_machine.specs.Wanted.{AreWanted}
 use Rattle.plan_machine.specs.Agreement.{AreAlike, BothAlike, EndAlike, InterleavingsAgree}
 use Rattle.plan_machine.specs.Total.{is_wanted}
-use Rattle.plan_machine.proofs.VerifyLaws.{VerifyLaws, rank_of, wait_below}
+use Rattle.plan_machine.specs.TurnLaws.{TurnLaws}
+use Rattle.plan_machine.proofs.RankLemmas.{rank_of, wait_below}
 use Rattle.plan_machine.proofs.OnlySlotsLemmas.{only, only_on, only_same, only_only, same_slots}
 use Rattle.plan_machine.proofs.SoloLemmas.{sees, seen, lent, owned_seen, Solo, solo, solo_after, Closed, one_end}
 use Rattle.plan_machine.proofs.HistoryLemmas.{RanAlone, History, Recalls}
@@ -72,7 +73,7 @@ outcome_in (Ended ran) = ended ran
 outcome_in (Broke cause) = Failed cause
 outcome_in (WentWrong flaw) = Stopped
 
-module _ (laws : VerifyLaws) (meaning : Meaning) (p : Parts) (shaped : IsWellShaped p) (wanted wanted2 : List Bool) (s t : State) (told told2 : ℕ → List Reply)
+module _ (laws : TurnLaws) (meaning : Meaning) (p : Parts) (shaped : IsWellShaped p) (wanted wanted2 : List Bool) (s t : State) (told told2 : ℕ → List Reply)
     (r : Recalls ⊥ meaning p wanted s told) (r2 : Recalls ⊥ meaning p wanted2 t told2) (done : has_ended s ≡ true) (done2 : has_ended t ≡ true)
     (same_told : (e : ℕ) → told e ≡ told2 e) (same_wishes : (e : ℕ) (a b : Bool) → slice_get wanted e ≡ Some a → slice_get wanted2 e ≡ Some b → a ≡ b) where
   record Same (e : ℕ) : Type 0 where
@@ -215,7 +216,7 @@ module _ (laws : VerifyLaws) (meaning : Meaning) (p : Parts) (shaped : IsWellSha
           subst (λ (o : Option Status). BothAlike (outcome_at o) (outcome_at (slice_get t.edges e))) (sym (slice_get_past s.edges e (omega (arith, far, r.sound.long))))
           (subst (λ (o : Option Status). BothAlike None (outcome_at o)) (sym (slice_get_past t.edges e (omega (arith, far, r2.sound.long)))) tt)
 
-pub interleavings_agree : VerifyLaws → InterleavingsAgree
+pub interleavings_agree : TurnLaws → InterleavingsAgree
 interleavings_agree laws meaning p shaped limits other all_borne all_borne2 targets events marks s reached done events2 marks2 t reached2 done2 same =
     let a = reached_recalls laws meaning p shaped limits ⊥ (none_spent limits all_borne) targets events marks s reached in
     let b = reached_recalls laws meaning p shaped other ⊥ (none_spent other all_borne2) targets events2 marks2 t reached2 in

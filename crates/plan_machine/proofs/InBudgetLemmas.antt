@@ -17,7 +17,7 @@ use Rattle.plan_verify.specs.Budget.{edge_budget, budget_of_first, brought, IsFr
 use Rattle.plan_verify.specs.Worth.{worth, Pays, TurnsPay}
 use Rattle.plan_machine.proofs.ListLemmas.{some_is, when_false, when_either, is_some_of}
 use Rattle.plan_machine.specs.Limits.{Limits}
-use Rattle.plan_machine.proofs.VerifyLaws.{VerifyLaws}
+use Rattle.plan_machine.specs.TurnLaws.{TurnLaws}
 use Rattle.plan_machine.specs.declared.event.Event.{Event}
 use Rattle.plan_machine.specs.declared.event.Event.TheVariants.{Start, Skip, Stop, Step, Reply as Hear}
 use Rattle.plan_machine.specs.declared.event.mark.Mark.{Mark}
@@ -69,7 +69,7 @@ take_quiet p e slots l here =
     ap (λ (o : Option Instr). request_of (act_at p e slots l o)) here
     ∙ when_either (λ (t : Turn). request_of t ≡ None) l.holding _ _ (λ h. refl) (λ h. when_either (λ (t : Turn). request_of t ≡ None) (pool_outside p e) _ _ (λ k. refl) (λ k. refl))
 
-module _ (laws : VerifyLaws) (meaning : Meaning) (frugal : IsFrugal meaning) (p : Parts) (shaped : IsWellShaped p) (limits : Limits) where
+module _ (laws : TurnLaws) (meaning : Meaning) (frugal : IsFrugal meaning) (p : Parts) (shaped : IsWellShaped p) (limits : Limits) where
   abbrev Lighter : ℕ → Stepped → Type 0
   Lighter n (Next s told) = weigh p 0 s.edges + 1 ≤ n
   Lighter n (Wrong flaw) = Unit {0}
@@ -189,7 +189,7 @@ module _ (laws : VerifyLaws) (meaning : Meaning) (frugal : IsFrugal meaning) (p 
   runs_pay s [] (told ∷ marks) end sound run = absurd run
   runs_pay s (event ∷ events) [] end sound run = absurd run
 
-pub stays_in_budget : VerifyLaws → StaysInBudget
+pub stays_in_budget : TurnLaws → StaysInBudget
 stays_in_budget laws meaning frugal p shaped limits targets events marks s reached =
     let run = runs_pay laws meaning frugal p shaped limits reached.start events marks s (opens_stand p targets reached.start reached.opens) reached.run in
     let first = weigh_first p 0 (length p.edges) reached.opens.wanted (let long = reached.opens.are.long in omega (arith, long)) in

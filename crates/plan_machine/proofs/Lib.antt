@@ -1,6 +1,6 @@
 pub mod ListLemmas
 pub mod TypedLemmas
-pub mod VerifyLaws
+pub mod RankLemmas
 pub mod StandingLemmas
 pub mod OpensLemmas
 pub mod NeverStuckLemmas

@@ -33,7 +33,7 @@ use Rattle.std.proofs.lemmas.Bool.{eqb-true}
 use Rattle.std.proofs.lemmas.Option.{slice_get_within}
 use Rattle.plan_machine.proofs.Applies.{set_again, step_is}
 use Rattle.plan_machine.proofs.ListLemmas.{and_both, get_same, set_here}
-use Rattle.plan_machine.proofs.VerifyLaws.{VerifyLaws}
+use Rattle.plan_machine.specs.TurnLaws.{TurnLaws}
 use Rattle.plan_machine.proofs.OpensLemmas.{reached_stands}
 use Rattle.plan_machine.proofs.StateLemmas.{can_turn, changed, runs_more, same_total}
 
@@ -92,7 +92,7 @@ reached_on p limits targets events xs marks ms s t reached run =
     record { start = reached.start; opens = reached.opens; run = runs_join p limits reached.start s t events xs marks ms reached.run run }
 
 -- after any run, a running edge makes a turn that isn't wrong
-pub run_turns : VerifyLaws → (p : Parts) → IsWellShaped p → (r : Running) → IsStateOf p r → (xs : List Event) (ms : List Mark) (s : State) → Runs depfile p r.run_state.limits r.run_state.now xs ms s
+pub run_turns : TurnLaws → (p : Parts) → IsWellShaped p → (r : Running) → IsStateOf p r → (xs : List Event) (ms : List Mark) (s : State) → Runs depfile p r.run_state.limits r.run_state.now xs ms s
     → (e : ℕ) (l : Local) → slice_get s.edges e ≡ Some (Active l) → CanTurn p s.slots e l
 run_turns laws p shaped r is xs ms s run e l at =
     can_turn laws p shaped r.run_state.limits s

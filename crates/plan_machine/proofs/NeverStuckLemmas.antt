@@ -18,7 +18,8 @@ use Rattle.plan_verify.specs.WellShaped.{IsWellShaped}
 use Rattle.plan_verify.specs.Sound.{IsSafe}
 use Rattle.plan_machine.proofs.ListLemmas.{get_inside, when_true, when_false, and_both, or_right}
 use Rattle.plan_machine.specs.Limits.{Limits}
-use Rattle.plan_machine.proofs.VerifyLaws.{VerifyLaws, rank_of, wait_below}
+use Rattle.plan_machine.specs.TurnLaws.{TurnLaws}
+use Rattle.plan_machine.proofs.RankLemmas.{rank_of, wait_below}
 use Rattle.plan_machine.specs.declared.event.Event.{Event}
 use Rattle.plan_machine.specs.declared.event.Event.TheVariants.{Start, Skip, Stop, Step}
 use Rattle.plan_machine.specs.declared.event.mark.Mark.{Mark}
@@ -70,7 +71,7 @@ is_take_at (Some op.Take) h = refl
 is_take_at (Some i) h = absurd cc
 
 -- an edge at Take holds no job token
-pub take_idle : (laws : VerifyLaws) (p : Parts) (s : State) (e : ℕ) (l : Local) → IsUnderWay p s e l → at_take p e l ≡ true → l.holding ≡ false
+pub take_idle : (laws : TurnLaws) (p : Parts) (s : State) (e : ℕ) (l : Local) → IsUnderWay p s e l → at_take p e l ≡ true → l.holding ≡ false
 take_idle laws p s e l u take =
     u.typed.holding ∙ (laws.fit p e u.shapes u.all l.place op.Take u.typed.shape (is_take_at (slice_get (code p e) l.place) take) u.typed.here).0
 
@@ -110,7 +111,7 @@ look s (w ∷ waits) inside = let first = inside w (first_in w waits) in here fi
     here (Over Stopped) is wanted rest = ill_here (Over Stopped) is refl
     here (Over NotWanted) is wanted rest = absurd (wanted refl)
 
-module _ (laws : VerifyLaws) (meaning : Meaning) (p : Parts) (shaped : IsWellShaped p) (limits : Limits) (some_jobs : 0 < limits.jobs) (s : State) (sound : Stands p s) where
+module _ (laws : TurnLaws) (meaning : Meaning) (p : Parts) (shaped : IsWellShaped p) (limits : Limits) (some_jobs : 0 < limits.jobs) (s : State) (sound : Stands p s) where
   abbrev GoesOn : Type 0
   GoesOn = CanGo meaning p limits s ⊎ Awaits s
 
@@ -229,6 +230,6 @@ module _ (laws : VerifyLaws) (meaning : Meaning) (p : Parts) (shaped : IsWellSha
   pub goes : (has_ended s ≡ true) ⊎ GoesOn
   goes = elim (find_open s.edges) [ inl all ↦ inl all | inr q ↦ inr (edge_goes (suc (rank_of p q.0)) q.0 q.1 (omega arith) q.2 q.3) ]
 
-pub never_stuck : VerifyLaws → NeverStuck
+pub never_stuck : TurnLaws → NeverStuck
 never_stuck laws meaning p shaped limits some_jobs targets events marks s reached =
     goes laws meaning p shaped limits some_jobs s (reached_stands laws meaning p shaped limits targets events marks s reached)

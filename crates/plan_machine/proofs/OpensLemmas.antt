@@ -8,7 +8,7 @@ use Rattle.plan_verify.specs.Turn.{Local, Meaning}
 use Rattle.plan_verify.specs.WellShaped.{IsWellShaped}
 use Rattle.plan_machine.proofs.ListLemmas.{some_is, map_length}
 use Rattle.plan_machine.specs.Limits.{Limits}
-use Rattle.plan_machine.proofs.VerifyLaws.{VerifyLaws}
+use Rattle.plan_machine.specs.TurnLaws.{TurnLaws}
 use Rattle.plan_machine.specs.declared.event.Event.{Event}
 use Rattle.plan_machine.specs.declared.event.mark.Mark.{Mark}
 use Rattle.plan_machine.specs.declared.event.mark.Outcome.TheVariants.{NotWanted}
@@ -68,10 +68,10 @@ opens_stand p targets s opens =
     read : (e : ℕ) → slice_get (map at_first opens.wanted) e ≡ slice_get s.edges e
     read e = ap (λ (l : List Status). slice_get l e) (sym opens.edges)
 
-pub reached_stands : (laws : VerifyLaws) (meaning : Meaning) (p : Parts) → IsWellShaped p → (limits : Limits) (targets : List ℕ) (events : List Event) (marks : List Mark) (s : State) → Reached meaning p limits targets events marks s → Stands p s
+pub reached_stands : (laws : TurnLaws) (meaning : Meaning) (p : Parts) → IsWellShaped p → (limits : Limits) (targets : List ℕ) (events : List Event) (marks : List Mark) (s : State) → Reached meaning p limits targets events marks s → Stands p s
 reached_stands laws meaning p shaped limits targets events marks s reached =
     runs_stand laws meaning p shaped limits reached.start events marks s (opens_stand p targets reached.start reached.opens) reached.run
 
-pub never_wrong : VerifyLaws → NeverWrong
+pub never_wrong : TurnLaws → NeverWrong
 never_wrong laws meaning p shaped limits targets events marks s reached event flaw =
     not_wrong laws meaning p shaped limits s event (reached_stands laws meaning p shaped limits targets events marks s reached) flaw

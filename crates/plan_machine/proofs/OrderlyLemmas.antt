@@ -15,7 +15,7 @@ use Rattle.plan_verify.specs.WellShaped.{IsWellShaped}
 use Rattle.plan_verify.specs.Sound.{IsSafe, asking}
 use Rattle.plan_machine.proofs.ListLemmas.{some_is, get_same, get_other, set_length, when_true, when_false, when_either, or_cases}
 use Rattle.plan_machine.specs.Limits.{Limits}
-use Rattle.plan_machine.proofs.VerifyLaws.{VerifyLaws}
+use Rattle.plan_machine.specs.TurnLaws.{TurnLaws}
 use Rattle.plan_machine.specs.declared.event.Event.{Event}
 use Rattle.plan_machine.specs.declared.event.Event.TheVariants.{Start, Skip, Stop, Step, Reply as Hear}
 use Rattle.plan_machine.specs.declared.event.mark.Mark.{Mark}
@@ -56,7 +56,7 @@ pub record Alters (p : Parts) (limits : Limits) (s mid : State) (told : Mark) : 
   pub ended_by : has_succeeded new ≡ true → (ran : Bool) × (told ≡ mark.Ended e ran)
   pub room : is_holder old ≡ false → is_holder new ≡ true → is_free p limits s e ≡ true
 
-module _ (laws : VerifyLaws) (meaning : Meaning) (p : Parts) (shaped : IsWellShaped p) (limits : Limits) (s : State) (sound : Stands p s) where
+module _ (laws : TurnLaws) (meaning : Meaning) (p : Parts) (shaped : IsWellShaped p) (limits : Limits) (s : State) (sound : Stands p s) where
   abbrev pub Altering : Stepped → Type 0
   Altering (Next mid told) = Alters p limits s mid told
   Altering (Wrong flaw) = Unit {0}
@@ -460,7 +460,7 @@ module _ (p : Parts) (limits : Limits) (s mid : State) (marks : List Mark) (told
   pub linked_mid : Linked p limits (marks ++ told ∷ []) mid
   linked_mid = record { held = held_mid; unbegun = unbegun_mid; well = well_mid; orderly = record { once = once_mid; after_waits = after_mid; in_jobs = jobs_mid; in_depth = depth_mid } }
 
-module _ (laws : VerifyLaws) (meaning : Meaning) (p : Parts) (shaped : IsWellShaped p) (limits : Limits) where
+module _ (laws : TurnLaws) (meaning : Meaning) (p : Parts) (shaped : IsWellShaped p) (limits : Limits) where
   runs_linked : (s : State) (before : List Mark) (events : List Event) (marks : List Mark) (end : State) → Stands p s → Linked p limits before s → Runs meaning p limits s events marks end → Linked p limits (before ++ marks) end
   runs_linked s before [] [] end sound linked run = subst (λ (t : State). Linked p limits (before ++ []) t) run (subst (λ (l : List Mark). Linked p limits l s) (sym (append_nil before)) linked)
   runs_linked s before (event ∷ events) (told ∷ marks) end sound linked run =
@@ -500,6 +500,6 @@ first_linked p limits targets s opens = record {
   };
 }
 
-pub marks_are_orderly : VerifyLaws → MarksAreOrderly
+pub marks_are_orderly : TurnLaws → MarksAreOrderly
 marks_are_orderly laws meaning p shaped limits targets events marks s reached =
     (runs_linked laws meaning p shaped limits reached.start [] events marks s (opens_stand p targets reached.start reached.opens) (first_linked p limits targets reached.start reached.opens) reached.run).orderly

@@ -39,7 +39,7 @@ use Rattle.plan_machine.specs.NeverStuck.{Awaits, CanGo, is_own}
 use Rattle.plan_machine.specs.Kept.{phase_over, phase_going, phase_active, phase_of, AreKept}
 use Rattle.plan_machine.specs.Picking.{IsEnabled, StepsFirst, event_of, is_step}
 use Rattle.plan_machine.proofs.ListLemmas.{and_both, get_inside, member_contained, or_right, when_true, when_false}
-use Rattle.plan_machine.proofs.VerifyLaws.{VerifyLaws}
+use Rattle.plan_machine.specs.TurnLaws.{TurnLaws}
 use Rattle.plan_machine.proofs.StandingLemmas.{turn_safe}
 use Rattle.plan_machine.proofs.NeverStuckLemmas.{is_take_at, settles_next}
 use Rattle.plan_machine.proofs.KeptLemmas.{failed_is, holds_is, count_is, holders_of_are, ill_at, phase_there, well_at}
@@ -196,7 +196,7 @@ module _ (p : Parts) (g : RunState) (plan : Plan) (schedule : Schedule) (kept : 
 
   -- ---- a picked event is enabled
 
-  module _ (laws : VerifyLaws) (shaped : IsWellShaped p) (some_jobs : 0 < g.limits.jobs) (sound : Stands p g.now) where
+  module _ (laws : TurnLaws) (shaped : IsWellShaped p) (some_jobs : 0 < g.limits.jobs) (sound : Stands p g.now) where
     step_next : (e : ℕ) (l : Local) → slice_get g.now.edges e ≡ Some (Active l) → l.asked ≡ false → (at_take p e l && not (is_free p g.limits g.now e)) ≡ false → IsEnabled p g (Step e)
     unfolding step
     step_next e l now quiet free =

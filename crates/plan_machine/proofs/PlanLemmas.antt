@@ -16,7 +16,7 @@ use Rattle.plan_schedule.specs.Scheduling.{IsPlan}
 use Rattle.plan_machine.specs.Firsts.{first_of}
 use Rattle.plan_machine.specs.Kept.{IsPlanOf}
 use Rattle.plan_machine.proofs.ListLemmas.{index_member, map_length}
-use Rattle.plan_machine.proofs.VerifyLaws.{wait_below}
+use Rattle.plan_machine.proofs.RankLemmas.{wait_below}
 
 -- ---- the first values of a function
 

@@ -31,7 +31,7 @@ use Rattle.plan_machine.proofs.OpensLemmas.{opens_stand}
 use Rattle.plan_machine.proofs.OnlySlotsLemmas.{only, only_set_on, only_set_off, only_or, only_unset}
 use Rattle.plan_machine.proofs.SoloLemmas.{sees, seen, lent, owned_seen, turn_seen, Solo, solo, by_heard, by_reply, solo_next, solo_after}
 use Rattle.plan_machine.proofs.HistoryLemmas.{RanAlone, Bare, History, Recalls, Apart, unlent, changed}
-use Rattle.plan_machine.proofs.VerifyLaws.{VerifyLaws}
+use Rattle.plan_machine.specs.TurnLaws.{TurnLaws}
 use Rattle.plan_machine.specs.Total.{is_wanted}
 
 -- the replies that each edge got, after one more event
@@ -58,7 +58,7 @@ loud_of meaning p e l r t is = by l.asked is
     by true h = refl
     by false h = absurd cc
 
-module _ (laws : VerifyLaws) (meaning : Meaning) (p : Parts) (shaped : IsWellShaped p) (limits : Limits) (gone : Type 0) (spent : (s : State) → is_spent limits s ≡ true → gone) (wanted : List Bool) where
+module _ (laws : TurnLaws) (meaning : Meaning) (p : Parts) (shaped : IsWellShaped p) (limits : Limits) (gone : Type 0) (spent : (s : State) → is_spent limits s ≡ true → gone) (wanted : List Bool) where
   module _ (s : State) (told after_told : ℕ → List Reply) (r : Recalls gone meaning p wanted s told) where
     abbrev Fine : Stepped → Type 0
     Fine (Next t mark) = Stands p t → Recalls gone meaning p wanted t after_told
@@ -255,7 +255,7 @@ opens_recall gone meaning p targets s opens =
     bare e = ap (only (owns p e)) opens.slots ∙ only_unset (owns p e) (length p.slots)
 
 -- the histories in a reached state, by the replies of all events
-pub reached_recalls : VerifyLaws → (meaning : Meaning) (p : Parts) → IsWellShaped p → (limits : Limits) (gone : Type 0) → ((s : State) → is_spent limits s ≡ true → gone) → (targets : List ℕ) (events : List Event) (marks : List Mark) (s : State)
+pub reached_recalls : TurnLaws → (meaning : Meaning) (p : Parts) → IsWellShaped p → (limits : Limits) (gone : Type 0) → ((s : State) → is_spent limits s ≡ true → gone) → (targets : List ℕ) (events : List Event) (marks : List Mark) (s : State)
     → (reached : Reached meaning p limits targets events marks s) → (told : ℕ → List Reply) × ((e : ℕ) → told e ≡ replies_to e events) × Recalls gone meaning p reached.opens.wanted s told
 reached_recalls laws meaning p shaped limits gone spent targets events marks s reached = (
   all_more (λ e. []) events,

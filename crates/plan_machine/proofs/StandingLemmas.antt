@@ -14,7 +14,7 @@ use Rattle.plan_verify.specs.WellShaped.{AreAllShapes, IsWellShaped}
 use Rattle.plan_verify.specs.Sound.{AreTyped, AreLentSet, AreOwnSet, IsTyped, IsSafe, asking}
 use Rattle.plan_machine.proofs.ListLemmas.{get_other, set_length, when_either}
 use Rattle.plan_machine.specs.Limits.{Limits}
-use Rattle.plan_machine.proofs.VerifyLaws.{VerifyLaws}
+use Rattle.plan_machine.specs.TurnLaws.{TurnLaws}
 use Rattle.plan_machine.proofs.TypedLemmas.{owned_is, set_stays, still_typed, begun_typed}
 use Rattle.plan_machine.specs.declared.event.Event.{Event}
 use Rattle.plan_machine.specs.declared.event.Event.TheVariants.{Start, Skip, Stop, Step, Reply as Hear}
@@ -60,7 +60,7 @@ Owed p s e slots (Over outcome) = (has_succeeded (Over outcome) ≡ true → Are
 abbrev pub Grow : Slots → Slots → Type 0
 Grow old new = (k : ℕ) → is_set old k ≡ true → is_set new k ≡ true
 
-module _ (laws : VerifyLaws) (p : Parts) (s : State) (e : ℕ) (old new : Status) (slots : Slots) (sound : Stands p s) (now : slice_get s.edges e ≡ Some old) (unwell : has_succeeded old ≡ false) (typed : AreTyped p slots) (grow : Grow s.slots slots) (owed : Owed p s e slots new) where
+module _ (laws : TurnLaws) (p : Parts) (s : State) (e : ℕ) (old new : Status) (slots : Slots) (sound : Stands p s) (now : slice_get s.edges e ≡ Some old) (unwell : has_succeeded old ≡ false) (typed : AreTyped p slots) (grow : Grow s.slots slots) (owed : Owed p s e slots new) where
   mid : State
   mid = record { edges = slice_set s.edges e new; slots = slots }
 
@@ -125,7 +125,7 @@ module _ (laws : VerifyLaws) (p : Parts) (s : State) (e : ℕ) (old new : Status
 
 -- ---- events
 
-module _ (laws : VerifyLaws) (meaning : Meaning) (p : Parts) (shaped : IsWellShaped p) (limits : Limits) where
+module _ (laws : TurnLaws) (meaning : Meaning) (p : Parts) (shaped : IsWellShaped p) (limits : Limits) where
   -- the allowed results of an event
   abbrev pub Safe : Stepped → Type 0
   Safe (Next s mark) = Stands p s

@@ -34,11 +34,11 @@ use Rattle.plan_machine.specs.Edges.{edge_of}
 use Rattle.plan_machine.specs.Total.{commands_among, is_wanted, total_of}
 use Rattle.plan_machine.specs.Kept.{Running, AreKept, IsBehind, IsStateOf, Changed}
 use Rattle.plan_machine.proofs.ListLemmas.{get_other, get_same, is_some_of, when_either}
-use Rattle.plan_machine.proofs.VerifyLaws.{VerifyLaws}
+use Rattle.plan_machine.specs.TurnLaws.{TurnLaws}
 use Rattle.plan_machine.proofs.StandingLemmas.{turn_safe}
 use Rattle.plan_machine.proofs.OpensLemmas.{reached_stands}
 
-pub state_stands : VerifyLaws → (p : Parts) → IsWellShaped p → (r : Running) → IsStateOf p r → Stands p r.run_state.now
+pub state_stands : TurnLaws → (p : Parts) → IsWellShaped p → (r : Running) → IsStateOf p r → Stands p r.run_state.now
 state_stands laws p shaped r is = reached_stands laws depfile p shaped r.run_state.limits is.targets is.events is.marks r.run_state.now is.reached
 
 safe_works : (p : Parts) (e : ℕ) (shapes : List Shape) (slots : Slots) (l : Local) (t : Turn) → IsSafe p e shapes slots l t → Works t
@@ -53,7 +53,7 @@ place_within : (p : Parts) (s : State) (e : ℕ) (l : Local) → IsUnderWay p s 
 place_within p s e l u = let i = is_some_of (slice_get (code p e) l.place) u.typed.inside in slice_get_within (code p e) l.place i.0 i.1
 
 -- a running edge makes a turn that isn't wrong
-pub can_turn : VerifyLaws → (p : Parts) → IsWellShaped p → (limits : Limits) (s : State) → Stands p s → (e : ℕ) (l : Local) → slice_get s.edges e ≡ Some (Active l) → CanTurn p s.slots e l
+pub can_turn : TurnLaws → (p : Parts) → IsWellShaped p → (limits : Limits) (s : State) → Stands p s → (e : ℕ) (l : Local) → slice_get s.edges e ≡ Some (Active l) → CanTurn p s.slots e l
 can_turn laws p shaped limits s sound e l now =
     let u = sound.active e l now in
     record {
@@ -63,7 +63,7 @@ can_turn laws p shaped limits s sound e l now =
     }
 
 -- the effect of a reply isn't wrong
-pub can_hear : VerifyLaws → QuestionsIgnoreSlots → (p : Parts) (s : State) → Stands p s → (e : ℕ) (r : Answer) (l : Local) → slice_get s.edges e ≡ Some (Active l) → CanHear p e r l
+pub can_hear : TurnLaws → QuestionsIgnoreSlots → (p : Parts) (s : State) → Stands p s → (e : ℕ) (r : Answer) (l : Local) → slice_get s.edges e ≡ Some (Active l) → CanHear p e r l
 can_hear laws ignore p s sound e r l now =
     let u = sound.active e l now in
     record {

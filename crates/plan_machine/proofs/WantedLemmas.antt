@@ -12,7 +12,7 @@ use Rattle.plan_verify.specs.WellShaped.{IsWellShaped}
 use Rattle.plan_machine.proofs.ListLemmas.{get_inside, get_same, get_other, set_length, or_cases, or_right}
 use Rattle.plan_machine.specs.Wanted.{IsWanted, is_chosen, is_waited, chosen, any_outside, AreWanted}
 use Rattle.plan_machine.proofs.ListLemmas.{none_member, member_contained}
-use Rattle.plan_machine.proofs.VerifyLaws.{wait_below}
+use Rattle.plan_machine.proofs.RankLemmas.{wait_below}
 use Rattle.plan_machine.specs.Walk.{Walked, meet_by, meet, meet_all, unmet, left, Walks}
 
 pub first_in : (e : ℕ) (es : List ℕ) → is_member e (e ∷ es) ≡ true

@@ -35,3 +35,4 @@ pub mod Ends
 pub mod LocalRuns
 pub mod Sweeping
 pub mod Histories
+pub mod TurnLaws

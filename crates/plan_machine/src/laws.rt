@@ -7,24 +7,33 @@ ghost use Rattle.plan_machine.specs.InBudget.{StaysInBudget};
 ghost use Rattle.plan_machine.specs.NeverStuck.{NeverStuck};
 ghost use Rattle.plan_machine.specs.NeverWrong.{NeverWrong};
 ghost use Rattle.plan_machine.specs.Orderly.{MarksAreOrderly};
+ghost use Rattle.plan_machine.specs.TurnLaws.{TurnLaws};
 ghost use Rattle.plan_verify.specs.Budget.{IsFrugal};
 
 use plan_depfile::paths_are_few;
 use plan_verify::{
-    all_turns_pay, goes_on_alone, instructions_fit, replies_are_safe, stays_typed, steps_are_safe,
-    tables_are_in_range,
+    all_turns_pay, goes_on_alone, instructions_fit, questions_ignore_slots, replies_are_safe,
+    stays_typed, steps_are_safe, tables_are_in_range,
 };
+
+/// States the laws of plan_verify that turns of edges rely on. It has no code.
+pub(crate) fn turn_laws()
+    ensures { TurnLaws }
+{
+    all_turns_pay();
+    instructions_fit();
+    questions_ignore_slots();
+    replies_are_safe();
+    stays_typed();
+    steps_are_safe();
+    tables_are_in_range();
+}
 
 /// States that no event of a reached state goes wrong.
 pub fn never_wrong()
     ensures { NeverWrong }
 {
-    all_turns_pay();
-    instructions_fit();
-    steps_are_safe();
-    replies_are_safe();
-    stays_typed();
-    tables_are_in_range();
+    turn_laws();
 }
 
 /// States that the marks of every run are orderly. An edge starts at most once, and after all edges that it
@@ -33,24 +42,14 @@ pub fn never_wrong()
 pub fn marks_are_orderly()
     ensures { MarksAreOrderly }
 {
-    all_turns_pay();
-    instructions_fit();
-    steps_are_safe();
-    replies_are_safe();
-    stays_typed();
-    tables_are_in_range();
+    turn_laws();
 }
 
 /// States that each reached state has ended, can go on, or awaits a reply.
 pub fn never_stuck()
     ensures { NeverStuck }
 {
-    all_turns_pay();
-    instructions_fit();
-    steps_are_safe();
-    replies_are_safe();
-    stays_typed();
-    tables_are_in_range();
+    turn_laws();
 }
 
 /// States that the number of events in a run is at most the image's budget plus the number of dependency bytes
@@ -58,12 +57,7 @@ pub fn never_stuck()
 pub fn stays_in_budget()
     ensures { StaysInBudget }
 {
-    all_turns_pay();
-    instructions_fit();
-    steps_are_safe();
-    replies_are_safe();
-    stays_typed();
-    tables_are_in_range();
+    turn_laws();
 }
 
 /// States that two ended runs of one image agree if there is no failure limit, the targets are the same, and
@@ -72,12 +66,7 @@ pub fn stays_in_budget()
 pub fn interleavings_agree()
     ensures { InterleavingsAgree }
 {
-    all_turns_pay();
-    instructions_fit();
-    steps_are_safe();
-    replies_are_safe();
-    stays_typed();
-    tables_are_in_range();
+    turn_laws();
 }
 
 /// States that each edge of a run ran by itself: from the slots that its waits left, by the replies that it
@@ -85,25 +74,15 @@ pub fn interleavings_agree()
 pub fn each_ran_by_itself()
     ensures { EachRanByItself }
 {
-    all_turns_pay();
+    turn_laws();
     goes_on_alone();
-    instructions_fit();
-    steps_are_safe();
-    replies_are_safe();
-    stays_typed();
-    tables_are_in_range();
 }
 
 /// States that the slots set by an edge that succeeded keep their values.
 pub fn slots_stay()
     ensures { SlotsStay }
 {
-    all_turns_pay();
-    instructions_fit();
-    steps_are_safe();
-    replies_are_safe();
-    stays_typed();
-    tables_are_in_range();
+    turn_laws();
 }
 
 /// States that a depfile has at least two bytes for each of its paths, which `stays_in_budget` requires of the

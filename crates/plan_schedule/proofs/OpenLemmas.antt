@@ -1,19 +1,19 @@
 -- Before any edge has begun, each number equals its count.
-use Rattle.std.proofs.Common.{◌≡◌, ◌≢◌, ℕ, zero, suc, ◌+◌, ◌<◌, ◌≤◌, List, [], ◌∷◌, length, refl, sym, ◌∙◌, ap, subst, arith, get_or, ◌⊎◌, inl, inr, Bool, true, false, cond, map, Some, None}
-use Rattle.std.specs.Prelude.{◌==◌, ◌&&◌, if◌then◌else◌, not, Option, count_by, replicate, slice_index}
+use Rattle.std.proofs.Common.{◌≡◌, ℕ, zero, suc, ◌+◌, ◌<◌, List, [], ◌∷◌, length, refl, sym, ◌∙◌, ap, subst, arith, get_or, inl, inr, Bool, true, false, cond, map, None}
+use Rattle.std.specs.Prelude.{◌==◌, ◌&&◌, not, Option, count_by, replicate, slice_index}
 use Rattle.std.proofs.lemmas.Bool.{cases_lt}
 use Rattle.std.proofs.lemmas.List.{get_or-map, get_or-replicate, get_or_past, length-map, length-replicate}
 use Rattle.std.proofs.lemmas.List.Sums.{sum_by-cons}
-use Rattle.plan_schedule.specs.BucketContents.{bucket_len}
 use Rattle.plan_schedule.specs.declared.phase.Phase.{Phase}
 use Rattle.plan_schedule.specs.declared.phase.Phase.TheVariants.{Unbegun, NotWanted}
 use Rattle.plan_schedule.specs.declared.plan.Plan.{Plan}
 use Rattle.plan_schedule.specs.declared.schedule.Schedule.{Schedule}
 use Rattle.plan_schedule.specs.Phases.{has_failed, holds, is_unsuccessful, is_open, has_succeeded, phase_at}
-use Rattle.plan_schedule.specs.Counts.{AreCounts, holders_of, one}
-use Rattle.plan_schedule.specs.BucketRules.{AreBuckets, ArePoolBuckets, failed_wait_at, bucket_of, pool_bucket_for, bucket_for, unbegun_bucket}
-use Rattle.plan_schedule.specs.Scheduling.{IsSchedule, IsFailedWait, IsKept, IsPlan, edges_of, count_unsucceeded, waits_of}
-use Rattle.plan_schedule.specs.Picking.{IsEmptyBucket}
+use Rattle.plan_schedule.specs.Counts.{holders_of, one}
+use Rattle.plan_schedule.specs.BucketRules.{AreBuckets, ArePoolBuckets, edge_row, failed_wait_at, pool_row_for, row_for, row_of}
+use Rattle.plan_schedule.specs.Scheduling.{IsSchedule, IsFailedWait, IsPlan, edges_of, count_unsucceeded, waits_of}
+use Rattle.plan_schedule.specs.Picking.{IsEmptyRow}
+use Rattle.plan_schedule.proofs.BucketLemmas.{unbegun_low}
 use Rattle.plan_schedule.proofs.PickLemmas.{bare_zero}
 use Rattle.plan_schedule.specs.Opening.{opening_phase, opening_bucket}
 
@@ -56,16 +56,12 @@ unsucceeded_all wanted (w ∷ ws) =
     let z : one (not (has_succeeded (phase_at phases w))) ≡ one (not false) = ap (λ v. one (not v)) (none_is has_succeeded wanted w refl refl) in
     omega (arith, rest, a, z)
 
-bucket_is : (wanted : Bool) (n pool : ℕ) → opening_bucket wanted n ≡ bucket_for (opening_phase wanted) n None pool
+bucket_is : (wanted : Bool) (n pool : ℕ) → edge_row (opening_bucket wanted n) ≡ row_for (opening_phase wanted) n None pool
 bucket_is true n pool = refl
 bucket_is false n pool = refl
 
-if_low : (b : Bool) (m n k : ℕ) → m < k → n < k → (if b then m else n) < k
-if_low true m n k h g = h
-if_low false m n k h g = g
-
-pub bucket_low : (wanted : Bool) (n : ℕ) → opening_bucket wanted n < 5
-bucket_low true n = if_low (n == 0) 2 1 5 (omega arith) (omega arith)
+pub bucket_low : (wanted : Bool) (n : ℕ) → edge_row (opening_bucket wanted n) < 5
+bucket_low true n = unbegun_low n None
 bucket_low false n = omega arith
 
 zero_at : (k s : ℕ) → slice_index (replicate k 0) s ≡ 0
@@ -87,19 +83,19 @@ pub opened : (plan : Plan) (b : Schedule) (wanted : List Bool) → IsPlan plan �
     → b.phases.items ≡ map opening_phase wanted → b.waiting.items ≡ map length plan.waits.items → b.failed_wait.items ≡ replicate (edges_of plan) None
     → b.counts.pool_holders.items ≡ replicate (length plan.depths.items) 0 → b.counts.holders ≡ 0 → b.counts.failures ≡ 0 → b.counts.open_edges ≡ count_by is_open b.phases.items
     → AreBuckets (edges_of plan) (length plan.depths.items) plan.pools.items b.buckets
-    → ((e : ℕ) → e < edges_of plan → slice_index b.buckets.bucket e ≡ opening_bucket (get_or wanted e false) (slice_index b.waiting.items e))
+    → ((e : ℕ) → e < edges_of plan → slice_index b.buckets.bucket e ≡ edge_row (opening_bucket (get_or wanted e false) (slice_index b.waiting.items e)))
     → b.pool_buckets.bucket ≡ replicate (length plan.depths.items) 0 → ArePoolBuckets (length plan.depths.items) b.pool_buckets → IsSchedule plan b
 opened plan b wanted is sized ep ew eb eh h0 f0 eo buckets filed pool_bucket pool_buckets =
     let phase_of : (e : ℕ) → e < edges_of plan → phase_at b.phases.items e ≡ opening_phase (get_or wanted e false)
     = λ e h. ap (λ (l : List Phase). phase_at l e) ep ∙ get_or-map opening_phase wanted e false Unbegun (omega (arith, h, sized)) in
     let failed_wait_is : (e : ℕ) → failed_wait_at b.failed_wait.items e ≡ None = λ e. ap (λ (l : List (Option ℕ)). failed_wait_at l e) eb ∙ none_at (edges_of plan) e in
-    let its : (e : ℕ) → e < edges_of plan → slice_index b.buckets.bucket e ≡ bucket_of plan.pools.items b.phases.items b.waiting.items b.failed_wait.items e
+    let its : (e : ℕ) → e < edges_of plan → slice_index b.buckets.bucket e ≡ row_of plan.pools.items b.phases.items b.waiting.items b.failed_wait.items e
     = λ e h. filed e h ∙ (bucket_is (get_or wanted e false) (slice_index b.waiting.items e) (slice_index plan.pools.items e)
-    ∙ (ap (λ ph. bucket_for ph (slice_index b.waiting.items e) None (slice_index plan.pools.items e)) (sym (phase_of e h))
-    ∙ ap (λ v. bucket_for (phase_at b.phases.items e) (slice_index b.waiting.items e) v (slice_index plan.pools.items e)) (sym (failed_wait_is e)))) in
-    let bare : (p : ℕ) → IsEmptyBucket b.buckets.bucket (5 + p) = λ p e h q.
+    ∙ (ap (λ ph. row_for ph (slice_index b.waiting.items e) None (slice_index plan.pools.items e)) (sym (phase_of e h))
+    ∙ ap (λ v. row_for (phase_at b.phases.items e) (slice_index b.waiting.items e) v (slice_index plan.pools.items e)) (sym (failed_wait_is e)))) in
+    let bare : (p : ℕ) → IsEmptyRow b.buckets.bucket (5 + p) = λ p e h q.
     let el : e < edges_of plan = subst (λ k. e < k) buckets.sized h in
-    let low : opening_bucket (get_or wanted e false) (slice_index b.waiting.items e) < 5 = bucket_low (get_or wanted e false) (slice_index b.waiting.items e) in
+    let low : edge_row (opening_bucket (get_or wanted e false) (slice_index b.waiting.items e)) < 5 = bucket_low (get_or wanted e false) (slice_index b.waiting.items e) in
     omega (arith, filed e el, low, q) in
     record {
       kept = record {
@@ -117,7 +113,7 @@ opened plan b wanted is sized ep ew eb eh h0 f0 eo buckets filed pool_bucket poo
         filed = its;
         pool_buckets = pool_buckets;
         pools_filed = λ p h. ap (λ (l : List ℕ). slice_index l p) pool_bucket ∙ (zero_at (length plan.depths.items) p
-            ∙ ap (λ k. pool_bucket_for k (slice_index b.counts.pool_holders.items p) (slice_index plan.depths.items p)) (sym (bare_zero b.buckets.bucket (5 + p) (bare p))));
+            ∙ ap (λ k. pool_row_for k (slice_index b.counts.pool_holders.items p) (slice_index plan.depths.items p)) (sym (bare_zero b.buckets.bucket (5 + p) (bare p))));
       };
       waiting = λ e h. ap (λ (l : List ℕ). slice_index l e) ew ∙ (get_or-map length plan.waits.items e [] 0 h ∙ (sym (unsucceeded_all wanted (waits_of plan e)) ∙ ap (λ (l : List Phase). count_unsucceeded l (waits_of plan e)) (sym ep)));
       failed_waits_are = λ e h. subst (IsFailedWait b.phases.items (waits_of plan e)) (sym (failed_wait_is e)) (λ w c. ap (λ (l : List Phase). is_unsuccessful (phase_at l w)) ep ∙ none_is is_unsuccessful wanted w refl refl);

@@ -2,12 +2,17 @@
 use Rattle.std.specs.Prelude.{◌≡◌, ◌≢◌, ◌==◌, ◌<◌, ◌≤◌, ◌⊎◌, ◌&&◌, ◌||◌, nat_le, nat_lt, true, false, Bool, ℕ, List, All, Contains, count_by, length, slice_index}
 use Rattle.plan_schedule.specs.declared.phase.Phase.{Phase}
 use Rattle.plan_schedule.specs.declared.phase.Phase.TheVariants.{Unbegun, Runnable, AtTake}
+use Rattle.plan_schedule.specs.declared.bucket_rules.EdgeBucket.{EdgeBucket}
+use Rattle.plan_schedule.specs.declared.bucket_rules.EdgeBucket.TheVariants.{Pending, Startable, Skippable}
+use Rattle.plan_schedule.specs.declared.bucket_rules.PoolBucket.{PoolBucket}
+use Rattle.plan_schedule.specs.declared.bucket_rules.PoolBucket.TheVariants.{Free, Full}
 use Rattle.plan_schedule.specs.declared.plan.Plan.{Plan}
 use Rattle.plan_schedule.specs.declared.schedule.Schedule.{Schedule}
 use Rattle.plan_schedule.specs.declared.schedule.picking.Pick.{Pick}
 use Rattle.plan_schedule.specs.declared.schedule.picking.Pick.TheVariants.{Start, Skip, Stop, Step}
 use Rattle.plan_schedule.specs.Phases.{has_failed, holds, is_unsuccessful, has_succeeded, phase_at}
 use Rattle.plan_schedule.specs.Counts.{holders_of}
+use Rattle.plan_schedule.specs.BucketRules.{edge_row, pool_row}
 use Rattle.plan_schedule.specs.Scheduling.{edges_of, waits_of}
 
 -- the failure limit has been reached
@@ -36,16 +41,24 @@ is_step _ = false
 abbrev pub StepsFirst : Plan → List Phase → ℕ → ℕ → Pick → Type 0
 StepsFirst plan phases jobs keep pick = (e : ℕ) → IsEnabled plan phases jobs keep (Step e) → is_step pick ≡ true
 
--- the bucket is empty
-abbrev pub IsEmptyBucket : List ℕ → ℕ → Type 0
-IsEmptyBucket bucket s = (e : ℕ) → e < length bucket → slice_index bucket e ≢ s
+-- no number is in this row
+abbrev pub IsEmptyRow : List ℕ → ℕ → Type 0
+IsEmptyRow bucket s = (e : ℕ) → e < length bucket → slice_index bucket e ≢ s
+
+-- no edge is in this bucket
+abbrev pub NoEdgeIn : Schedule → EdgeBucket → Type 0
+NoEdgeIn b bucket = IsEmptyRow b.buckets.bucket (edge_row bucket)
+
+-- no pool is in this bucket
+abbrev pub NoPoolIn : Schedule → PoolBucket → Type 0
+NoPoolIn b bucket = IsEmptyRow b.pool_buckets.bucket (pool_row bucket)
 
 -- no edge at Take can take a job token or be stopped
 abbrev pub AtTakeStays : Plan → Schedule → ℕ → ℕ → Type 0
 AtTakeStays plan b jobs keep =
-    ((is_spent keep b.phases.items ≡ true) × IsEmptyBucket b.pool_buckets.bucket 1 × IsEmptyBucket b.pool_buckets.bucket 2)
-    ⊎ ((is_spent keep b.phases.items ≡ false) × ((jobs ≤ count_by holds b.phases.items) ⊎ IsEmptyBucket b.pool_buckets.bucket 1))
+    ((is_spent keep b.phases.items ≡ true) × NoPoolIn b Free × NoPoolIn b Full)
+    ⊎ ((is_spent keep b.phases.items ≡ false) × ((jobs ≤ count_by holds b.phases.items) ⊎ NoPoolIn b Free))
 
 -- no edge that hasn't begun can start, be skipped or be stopped
 abbrev pub UnbegunStays : Schedule → ℕ → Type 0
-UnbegunStays b keep = IsEmptyBucket b.buckets.bucket 3 × IsEmptyBucket b.buckets.bucket 2 × ((is_spent keep b.phases.items ≡ false) ⊎ IsEmptyBucket b.buckets.bucket 1)
+UnbegunStays b keep = NoEdgeIn b Skippable × NoEdgeIn b Startable × ((is_spent keep b.phases.items ≡ false) ⊎ NoEdgeIn b Pending)

@@ -1,12 +1,13 @@
 -- The schedule of the edges of a plan.
-use Rattle.std.specs.Prelude.{◌≡◌, ◌≢◌, ◌<◌, ◌≤◌, ◌+◌, ◌^◌, not, true, false, ℕ, List, Option, None, Some, [], All, Contains, count_by, get_or, length, slice_index}
-use Rattle.plan_schedule.specs.BucketContents.{BucketContents, bucket_len}
+use Rattle.std.specs.Prelude.{◌≡◌, ◌<◌, ◌+◌, ◌^◌, not, true, false, ℕ, List, Option, None, Some, [], All, Contains, count_by, get_or, length, slice_index}
+use Rattle.plan_schedule.specs.BucketContents.{bucket_len}
 use Rattle.plan_schedule.specs.declared.phase.Phase.{Phase}
 use Rattle.plan_schedule.specs.declared.plan.Plan.{Plan}
 use Rattle.plan_schedule.specs.declared.schedule.Schedule.{Schedule}
+use Rattle.plan_schedule.specs.declared.bucket_rules.EdgeBucket.TheVariants.{AtTakeOf}
 use Rattle.plan_schedule.specs.Phases.{is_unsuccessful, has_succeeded, phase_at}
 use Rattle.plan_schedule.specs.Counts.{AreCounts}
-use Rattle.plan_schedule.specs.BucketRules.{AreBuckets, ArePoolBuckets, failed_wait_at, bucket_of, pool_bucket_for}
+use Rattle.plan_schedule.specs.BucketRules.{AreBuckets, ArePoolBuckets, failed_wait_at, edge_row, pool_row_for, row_of}
 
 -- the number of edges of a plan
 abbrev pub edges_of : Plan → ℕ
@@ -39,10 +40,10 @@ pub record IsKept (plan : Plan) (b : Schedule) : Type 0 where
   pub holders_sized : length b.counts.pool_holders.items ≡ length plan.depths.items
   pub counts : AreCounts plan.pools.items b.phases.items b.counts.pool_holders.items b.counts.holders b.counts.failures b.counts.open_edges
   pub buckets : AreBuckets (edges_of plan) (length plan.depths.items) plan.pools.items b.buckets
-  pub filed : (e : ℕ) → e < edges_of plan → slice_index b.buckets.bucket e ≡ bucket_of plan.pools.items b.phases.items b.waiting.items b.failed_wait.items e
+  pub filed : (e : ℕ) → e < edges_of plan → slice_index b.buckets.bucket e ≡ row_of plan.pools.items b.phases.items b.waiting.items b.failed_wait.items e
   pub pool_buckets : ArePoolBuckets (length plan.depths.items) b.pool_buckets
   pub pools_filed : (p : ℕ) → p < length plan.depths.items
-      → slice_index b.pool_buckets.bucket p ≡ pool_bucket_for (bucket_len (5 + p) b.buckets.bucket) (slice_index b.counts.pool_holders.items p) (slice_index plan.depths.items p)
+      → slice_index b.pool_buckets.bucket p ≡ pool_row_for (bucket_len (edge_row (AtTakeOf p)) b.buckets.bucket) (slice_index b.counts.pool_holders.items p) (slice_index plan.depths.items p)
 
 -- one of the waits failed, was skipped or was stopped, or none was
 abbrev pub IsFailedWait : List Phase → List ℕ → Option ℕ → Type 0

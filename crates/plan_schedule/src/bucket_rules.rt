@@ -2,51 +2,119 @@
 
 ghost use Rattle.std.specs.Prelude.{◌≡◌, ◌≢◌, ◌<◌, ◌≤◌, ◌+◌, ◌^◌, ℕ, length, slice_index, slice_set};
 ghost use Rattle.plan_schedule.specs.BucketContents.{bucket_len};
-ghost use Rattle.plan_schedule.specs.BucketRules.{AreBuckets, ArePoolBuckets, bucket_of, pool_bucket_for, bucket_for, unbegun_bucket};
+ghost use Rattle.plan_schedule.specs.BucketRules.{AreBuckets, ArePoolBuckets, bucket_for, edge_row, pool_bucket_for, pool_row, pool_row_for, row_of, unbegun_bucket};
 
 use crate::buckets::Buckets;
 use crate::phase::Phase;
 
-/// Returns the bucket of an edge that hasn't begun: 3 if it can be skipped, 2 if it can start, 1 if it waits.
-fn unbegun_bucket(waiting: u32, failed_wait: Option<u32>) -> u32
-    ensures { result ≡ unbegun_bucket waiting failed_wait }
-{
-    match failed_wait {
-        Some(_) => 3,
-        None => { if waiting == 0 { 2 } else { 1 } }
+/// The bucket of an edge, by what the edge can do.
+#[derive(Clone, Copy)]
+pub(crate) enum EdgeBucket {
+    /// It can do nothing by itself: it awaits a reply, has an outcome, or isn't wanted.
+    Resting,
+    /// It hasn't begun, and an edge that it waits for has no outcome.
+    Pending,
+    /// It hasn't begun, and all edges that it waits for succeeded.
+    Startable,
+    /// It hasn't begun, and an edge that it waits for failed, was skipped or was stopped.
+    Skippable,
+    /// It has begun, and can make a step.
+    Steppable,
+    /// It is at Take, and is in this pool.
+    AtTakeOf(u32),
+}
+
+impl EdgeBucket {
+    /// Returns the row of the bucket.
+    #[inline]
+    pub(crate) fn row(self) -> u32
+        requires { edge_row self < 2 ^ 32 }
+        ensures { result ≡ edge_row self }
+    {
+        match self {
+            EdgeBucket::Resting => 0,
+            EdgeBucket::Pending => 1,
+            EdgeBucket::Startable => 2,
+            EdgeBucket::Skippable => 3,
+            EdgeBucket::Steppable => 4,
+            EdgeBucket::AtTakeOf(pool) => 5 + pool,
+        }
     }
 }
 
-/// Returns the bucket of an edge: 0 if it can do nothing, 1 to 3 if it hasn't begun, 4 if it can make a step,
-/// and 5 plus the number of its pool if it is at Take.
-fn bucket_for(phase: Phase, waiting: u32, failed_wait: Option<u32>, pool: u32) -> u32
-    requires { pool + 5 < 2 ^ 32 }
+/// The bucket of a pool, by what its edges at Take can do.
+#[derive(Clone, Copy)]
+pub(crate) enum PoolBucket {
+    /// None of its edges is at Take.
+    Idle,
+    /// Some of its edges are at Take, and it has a free job token.
+    Free,
+    /// Some of its edges are at Take, and it has no free job token.
+    Full,
+}
+
+impl PoolBucket {
+    /// Returns the row of the bucket.
+    #[inline]
+    pub(crate) fn row(self) -> u32
+        ensures row { result ≡ pool_row self }
+        ensures low { result < 3 }
+    {
+        match self {
+            PoolBucket::Idle => 0,
+            PoolBucket::Free => 1,
+            PoolBucket::Full => 2,
+        }
+    }
+}
+
+/// Returns the bucket of an edge that hasn't begun.
+#[inline]
+fn unbegun_bucket(waiting: u32, failed_wait: Option<u32>) -> EdgeBucket
+    ensures { result ≡ unbegun_bucket waiting failed_wait }
+{
+    match failed_wait {
+        Some(_) => EdgeBucket::Skippable,
+        None => {
+            if waiting == 0 {
+                EdgeBucket::Startable
+            } else {
+                EdgeBucket::Pending
+            }
+        }
+    }
+}
+
+/// Returns the bucket of an edge.
+#[inline]
+fn bucket_for(phase: Phase, waiting: u32, failed_wait: Option<u32>, pool: u32) -> EdgeBucket
     ensures { result ≡ bucket_for phase waiting failed_wait pool }
 {
     match phase {
         Phase::Unbegun => unbegun_bucket(waiting, failed_wait),
-        Phase::Runnable(_) => 4,
-        Phase::AtTake(_) => 5 + pool,
-        Phase::Waiting(_) => 0,
-        Phase::Succeeded => 0,
-        Phase::Failed => 0,
-        Phase::Abandoned => 0,
-        Phase::NotWanted => 0,
+        Phase::Runnable(_) => EdgeBucket::Steppable,
+        Phase::AtTake(_) => EdgeBucket::AtTakeOf(pool),
+        Phase::Waiting(_) => EdgeBucket::Resting,
+        Phase::Succeeded => EdgeBucket::Resting,
+        Phase::Failed => EdgeBucket::Resting,
+        Phase::Abandoned => EdgeBucket::Resting,
+        Phase::NotWanted => EdgeBucket::Resting,
     }
 }
 
-/// Returns the bucket of a pool: 0 if none of its edges is at Take, 1 if it has a free job token for one, and 2
-/// if it is full.
-fn pool_bucket_for(at_take: u32, holders: u32, depth: u32) -> u32
+/// Returns the bucket of a pool, given the number of its edges at Take, the number of its edges that hold a job
+/// token, and its depth (0 for no limit).
+#[inline]
+fn pool_bucket_for(at_take: u32, holders: u32, depth: u32) -> PoolBucket
     ensures { result ≡ pool_bucket_for at_take holders depth }
 {
     if at_take == 0 {
-        return 0;
+        return PoolBucket::Idle;
     }
     if depth == 0 || holders < depth {
-        return 1;
+        return PoolBucket::Free;
     }
-    2
+    PoolBucket::Full
 }
 
 /// Moves an edge to its bucket.
@@ -66,12 +134,13 @@ pub fn move_edge(
     requires pool { slice_index pools.now edge < pool_count }
     requires few { pool_count + 5 < 2 ^ 32 }
     requires buckets { AreBuckets (length phases.now) pool_count pools.now buckets.old }
-    requires filed { (e : ℕ) → e < length phases.now → e ≢ edge → slice_index buckets.old.bucket e ≡ bucket_of pools.now phases.now waiting.now failed_wait.now e }
-    ensures { buckets.new ≡ record buckets.old { bucket = slice_set buckets.old.bucket edge (bucket_of pools.now phases.now waiting.now failed_wait.now edge) } }
+    requires filed { (e : ℕ) → e < length phases.now → e ≢ edge → slice_index buckets.old.bucket e ≡ row_of pools.now phases.now waiting.now failed_wait.now e }
+    ensures { buckets.new ≡ record buckets.old { bucket = slice_set buckets.old.bucket edge (row_of pools.now phases.now waiting.now failed_wait.now edge) } }
 {
     let at = edge as usize;
     let bucket = bucket_for(phases[at], waiting[at], failed_wait[at], pools[at]);
-    buckets.put(edge, bucket);
+    let row = bucket.row();
+    buckets.put(edge, row);
 }
 
 /// Moves a pool to its bucket.
@@ -87,9 +156,11 @@ pub fn move_pool(
     requires holders { length holders.now ≡ length depths.now }
     requires buckets { length buckets.now.capacity ≡ 5 + length depths.now }
     requires pool_buckets { ArePoolBuckets (length depths.now) pool_buckets.old }
-    ensures { pool_buckets.new ≡ record pool_buckets.old { bucket = slice_set pool_buckets.old.bucket pool (pool_bucket_for (bucket_len (5 + pool) buckets.now.bucket) (slice_index holders.now pool) (slice_index depths.now pool)) } }
+    ensures { pool_buckets.new ≡ record pool_buckets.old { bucket = slice_set pool_buckets.old.bucket pool (pool_row_for (bucket_len (edge_row (EdgeBucket.AtTakeOf pool)) buckets.now.bucket) (slice_index holders.now pool) (slice_index depths.now pool)) } }
 {
-    let at_take = buckets.len(5 + pool);
+    let at_take_row = EdgeBucket::AtTakeOf(pool).row();
+    let at_take = buckets.len(at_take_row);
     let bucket = pool_bucket_for(at_take, holders[pool as usize], depths[pool as usize]);
-    pool_buckets.put(pool, bucket);
+    let row = bucket.row();
+    pool_buckets.put(pool, row);
 }

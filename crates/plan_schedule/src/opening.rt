@@ -3,10 +3,11 @@
 ghost use Rattle.std.specs.Prelude.{◌≡◌, ◌<◌, ◌≤◌, ◌+◌, ◌^◌, [], ℕ, false, All, IfOk, None, count_by, get_or, length, map, replicate, slice_index};
 ghost use Rattle.plan_schedule.specs.BucketContents.{bucket_len};
 ghost use Rattle.plan_schedule.specs.Scheduling.{IsSchedule, IsPlan, edges_of};
-ghost use Rattle.plan_schedule.specs.BucketRules.{ArePoolBuckets, AreBuckets};
+ghost use Rattle.plan_schedule.specs.BucketRules.{ArePoolBuckets, AreBuckets, edge_row};
 ghost use Rattle.plan_schedule.specs.Phases.{is_open};
 ghost use Rattle.plan_schedule.specs.Opening.{opening_phase, opening_bucket};
 
+use crate::bucket_rules::EdgeBucket;
 use crate::buckets::Buckets;
 use crate::counting::Counts;
 use crate::dependents::dependents_of;
@@ -52,16 +53,17 @@ fn opening_phase(wanted: bool) -> Phase
 }
 
 /// Returns the bucket of an edge that is wanted or not, given the number of its waits.
-fn opening_bucket(wanted: bool, waiting: u32) -> u32
+#[inline]
+fn opening_bucket(wanted: bool, waiting: u32) -> EdgeBucket
     ensures { result ≡ opening_bucket wanted waiting }
 {
     if !wanted {
-        return 0;
+        return EdgeBucket::Resting;
     }
     if waiting == 0 {
-        return 2;
+        return EdgeBucket::Startable;
     }
-    1
+    EdgeBucket::Pending
 }
 
 /// Returns the phase of each edge.
@@ -87,8 +89,8 @@ fn waiting_of(alloc: Global, waits: &[Numbers]) -> Result<Vec<u32>, AllocError>
     Ok(waiting)
 }
 
-/// Returns the capacities of the buckets, with room for all edges in each of the first five, and none in the
-/// others.
+/// Returns the capacities of the rows, with room for all edges in each of the first five, and none in those of the
+/// pools.
 fn common_capacities(alloc: Global, edges: u32, pool_count: usize) -> Result<Vec<u32>, AllocError>
     requires { pool_count + 5 < 2 ^ 32 }
     ensures len { IfOk result (λ v. length v.items ≡ 5 + pool_count) }
@@ -102,8 +104,8 @@ fn common_capacities(alloc: Global, edges: u32, pool_count: usize) -> Result<Vec
     Ok(capacities)
 }
 
-/// Returns the capacity of each bucket: room for all edges in each of the first five, and for the edges of its
-/// pool in each other one.
+/// Returns the capacity of each row: room for all edges in each of the first five, and for the edges of its pool
+/// in each other one.
 fn capacities_of(alloc: Global, pools: &[u32], pool_count: usize) -> Result<Vec<u32>, AllocError>
     requires few_pools { pool_count + 5 < 2 ^ 32 }
     requires few { length pools.now < 2 ^ 32 }
@@ -147,16 +149,14 @@ fn fill_buckets(
     requires wanted { length wanted.now ≡ length pools.now }
     requires waiting { length waiting.now ≡ length pools.now }
     ensures buckets { IfOk result (λ f. AreBuckets (length pools.now) pool_count pools.now f) }
-    ensures filed { IfOk result (λ f. (e : ℕ) → e < length pools.now → slice_index f.bucket e ≡ opening_bucket (get_or wanted.now e false) (slice_index waiting.now e)) }
+    ensures filed { IfOk result (λ f. (e : ℕ) → e < length pools.now → slice_index f.bucket e ≡ edge_row (opening_bucket (get_or wanted.now e false) (slice_index waiting.now e))) }
 {
     let edges = pools.len() as u32;
     let capacities = capacities_of(alloc, pools, pool_count)?;
     let mut buckets = Buckets::new(alloc, edges, &capacities)?;
     for edge in 0..edges {
-        buckets.put(
-            edge,
-            opening_bucket(wanted[edge as usize], waiting[edge as usize]),
-        );
+        let row = opening_bucket(wanted[edge as usize], waiting[edge as usize]).row();
+        buckets.put(edge, row);
     }
     Ok(buckets)
 }

@@ -2,6 +2,7 @@
 
 ghost use Rattle.plan_status.specs.Live.{EndsStay, FeedStays, FeedsJoin, LineProgressStays, ShownIsFree, UnusedIsFed};
 ghost use Rattle.plan_status.specs.Printing.{LinesJoin, PrintsJoin, StopStays};
+ghost use Rattle.plan_text.specs.Laws.{FailedWriteStays, WritesJoin};
 
 use plan_text::writes_join;
 
@@ -18,6 +19,17 @@ pub fn prints_join()
     ensures stopped { StopStays }
 {
     writes_join();
+}
+
+/// States the laws of `writes_join` and `prints_join`. It has no code.
+pub(crate) fn join_laws()
+    ensures writes { WritesJoin }
+    ensures failed { FailedWriteStays }
+    ensures join { PrintsJoin }
+    ensures stopped { StopStays }
+{
+    writes_join();
+    prints_join();
 }
 
 /// States that what is fed or shown of the marks so far is so of more marks too, that a feed into which nothing was put

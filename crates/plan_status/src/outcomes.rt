@@ -9,12 +9,12 @@ ghost use Rattle.plan_status.specs.Outcomes as defined;
 ghost use Rattle.plan_status.specs.Printing.{Prints};
 
 use crate::fault::PrintFault;
-use crate::laws::prints_join;
+use crate::laws::join_laws;
 use crate::lines::{cause_text, concatenate};
 use crate::names::first_path;
 use plan_image::{EdgeRef, Parts};
 use plan_machine::{Cause, Outcome, State};
-use plan_text::{Sink, write_all, writes_join};
+use plan_text::{Sink, write_all};
 use plan_verify::Verified;
 use std::alloc::{AllocError, Global};
 
@@ -122,8 +122,7 @@ pub fn print_outcomes<W: Sink>(
 ) -> Result<(), PrintFault>
     ensures { Prints (defined.outcomes_of image.now state.now.run_state.now) (result_err result) (W.failures out.old, W.taken out.old) (W.failures out.new, W.taken out.new) }
 {
-    writes_join();
-    prints_join();
+    join_laws();
     let parts = image.image().parts();
     for number in 0..parts.edges.len() {
         let edge = parts.edges.edge(number);

@@ -7,11 +7,11 @@ ghost use Rattle.plan_status.specs.Lines.{lines_behind, lines_of};
 ghost use Rattle.plan_status.specs.Printing.{Prints};
 
 use crate::fault::PrintFault;
-use crate::laws::prints_join;
+use crate::laws::join_laws;
 use crate::lines::{line_of, tells_end};
 use plan_image::Parts;
 use plan_machine::Mark;
-use plan_text::{Sink, write_all, writes_join};
+use plan_text::{Sink, write_all};
 use plan_verify::Verified;
 use std::alloc::{AllocError, Global};
 
@@ -80,8 +80,7 @@ pub(crate) fn print_behind<W: Sink>(
     requires counted { n ≡ defined.ends image.now (take from marks.now) }
     ensures { Prints (lines_behind image.now total (take from marks.now) (drop from marks.now)) (result_err result) (W.failures out.old, W.taken out.old) (W.failures out.new, W.taken out.new) }
 {
-    writes_join();
-    prints_join();
+    join_laws();
     let parts = image.image().parts();
     let mut n = n;
     for at in from..marks.len() {

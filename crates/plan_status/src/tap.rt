@@ -10,9 +10,9 @@ ghost use Rattle.plan_status.specs.Live.{AreEnds, IsFed, IsUntapped, IsUnused, S
 use crate::fault::PrintFault;
 use crate::feed::Feed;
 use crate::format::Format;
-use crate::laws::prints_join;
+use crate::laws::join_laws;
 use plan_machine::Mark;
-use plan_text::{Sink, write_all, writes_join};
+use plan_text::{Sink, write_all};
 use plan_verify::Verified;
 use rtrb::{Consumer, RingBuffer};
 use std::alloc::{AllocError, Global};
@@ -64,8 +64,7 @@ fn print_mark<F: Format, W: Sink>(
         → HasPrinted (F.tells format.new image.now total) (marks ++ mark ∷ []) result start (W.failures out.new, W.taken out.new) }
     ensures same { F.kept format.new ≡ F.kept format.old }
 {
-    writes_join();
-    prints_join();
+    join_laws();
     if stop.is_some() {
         return stop;
     }

@@ -16,14 +16,12 @@ ghost use Rattle.plan_machine.specs.Step.{NotEnabled, step};
 use crate::event::Event;
 use crate::event::mark::Mark;
 use crate::event::reply::Reply;
+use crate::laws::turn_laws;
 use crate::run::local_run::LocalRun;
 use crate::run::refused::Refused;
 use crate::run::state::State;
 use plan_image::Image;
-use plan_verify::{
-    Verified, all_turns_pay, codes_are_short, instructions_fit, questions_ignore_slots,
-    replies_are_safe, stays_typed, steps_are_safe, tables_are_in_range,
-};
+use plan_verify::{Verified, codes_are_short};
 
 impl LocalRun {
     /// Returns whether no step was made.
@@ -71,13 +69,8 @@ impl State {
         ensures most { result.steps ≤ 64 }
         ensures state { IsStateOf image.now self.new }
     {
-        all_turns_pay();
+        turn_laws();
         codes_are_short();
-        instructions_fit();
-        replies_are_safe();
-        stays_typed();
-        steps_are_safe();
-        tables_are_in_range();
         let tables = image.image();
         let _parts = tables.parts();
         let local_run = self.run_local_steps(tables, edge);
@@ -108,14 +101,8 @@ impl State {
         ensures refused { step depfile image.now self.old.run_state.limits self.old.run_state.now (Hear edge reply) ≡ NotEnabled → result ≡ Err Refused.NotEnabled }
         ensures state { IsStateOf image.now self.new }
     {
-        all_turns_pay();
+        turn_laws();
         codes_are_short();
-        instructions_fit();
-        questions_ignore_slots();
-        replies_are_safe();
-        stays_typed();
-        steps_are_safe();
-        tables_are_in_range();
         let tables = image.image();
         let _parts = tables.parts();
         let mark = self.change(tables, Event::Reply(edge, reply))?;

@@ -11,13 +11,11 @@ ghost use Rattle.plan_machine.specs.State.{Active, has_ended};
 
 use crate::event::Event;
 use crate::event::request::Request;
+use crate::laws::turn_laws;
 use crate::run::state::State;
 use plan_image::Image;
 use plan_schedule::Pick;
-use plan_verify::{
-    Verified, all_turns_pay, instructions_fit, replies_are_safe, stays_typed, steps_are_safe,
-    tables_are_in_range,
-};
+use plan_verify::Verified;
 
 /// Converts a pick of the schedule to an event.
 fn event_of(pick: Pick) -> Event
@@ -43,12 +41,7 @@ impl State {
         ensures none { IfNone result ((event : Event) → is_own event ≡ true → IsEnabled image.now self.now.run_state event → ⊥) }
         ensures waits { IfNone result ((has_ended self.now.run_state.now ≡ true) ⊎ Awaits self.now.run_state.now) }
     {
-        all_turns_pay();
-        instructions_fit();
-        replies_are_safe();
-        stays_typed();
-        steps_are_safe();
-        tables_are_in_range();
+        turn_laws();
         let _tables = image.image();
         let jobs = self.machine.jobs();
         let keep = self.machine.keep();
@@ -64,12 +57,7 @@ impl State {
         ensures asked { option_map shown result ≡ asked_at image.now self.now.run_state.now edge }
         ensures some { (l : Local) → slice_get self.now.run_state.now.edges edge ≡ Some (Active l) → l.asked ≡ true → IsSome result }
     {
-        all_turns_pay();
-        instructions_fit();
-        replies_are_safe();
-        stays_typed();
-        steps_are_safe();
-        tables_are_in_range();
+        turn_laws();
         let tables = image.image();
         self.machine.awaited_request(tables, edge)
     }
@@ -98,12 +86,7 @@ impl State {
         ensures asks { IfSome result (λ r. Asks image.now self.now.run_state event.now (shown r)) }
         ensures none { IfNone result (AsksNothing image.now self.now.run_state event.now) }
     {
-        all_turns_pay();
-        instructions_fit();
-        replies_are_safe();
-        stays_typed();
-        steps_are_safe();
-        tables_are_in_range();
+        turn_laws();
         let tables = image.image();
         self.asked_by(tables, event)
     }

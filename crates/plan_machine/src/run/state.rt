@@ -21,6 +21,7 @@ ghost use Rattle.plan_machine.specs.Wanted.{any_outside};
 use crate::edge::tables::{pool, waits};
 use crate::event::Event;
 use crate::event::mark::{Mark, Outcome};
+use crate::laws::turn_laws;
 use crate::run::image_plan::image_plan;
 use crate::run::machine::Machine;
 use crate::run::options::Options;
@@ -28,10 +29,7 @@ use crate::run::refused::Refused;
 use crate::run::wanted::{any_outside, wanted_edges};
 use plan_image::Image;
 use plan_schedule::{Phase, Plan, Schedule};
-use plan_verify::{
-    Verified, all_turns_pay, codes_are_short, instructions_fit, questions_ignore_slots,
-    replies_are_safe, stays_typed, steps_are_safe, tables_are_in_range,
-};
+use plan_verify::{Verified, codes_are_short};
 use std::alloc::Global;
 use std::marker::Model;
 
@@ -323,14 +321,8 @@ impl State {
         ensures refused { step depfile image.now self.old.run_state.limits self.old.run_state.now event ≡ NotEnabled → result ≡ Err Refused.NotEnabled }
         ensures state { IsStateOf image.now self.new }
     {
-        all_turns_pay();
+        turn_laws();
         codes_are_short();
-        instructions_fit();
-        questions_ignore_slots();
-        replies_are_safe();
-        stays_typed();
-        steps_are_safe();
-        tables_are_in_range();
         let tables = image.image();
         let _parts = tables.parts();
         let edge = event.edge();

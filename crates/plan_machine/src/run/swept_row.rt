@@ -8,13 +8,11 @@ ghost use Rattle.plan_machine.specs.Requests.{asked_at};
 ghost use Rattle.plan_machine.specs.State.{Active};
 ghost use Rattle.plan_machine.specs.Sweeping.{HasSweptTo, IsSweptAt, IsSweptRow, SweepsRow, row_events, row_marks};
 
+use crate::laws::turn_laws;
 use crate::run::machine::Machine;
 use crate::run::state::State;
 use plan_image::Image;
-use plan_verify::{
-    PathList, Verified, all_turns_pay, instructions_fit, questions_ignore_slots, replies_are_safe,
-    stays_typed, steps_are_safe, tables_are_in_range,
-};
+use plan_verify::{PathList, Verified};
 
 impl Machine {
     /// Returns the paths of an edge's sweep and how many of them have a stamp, if the edge awaits the stamp of
@@ -89,13 +87,7 @@ impl State {
         ensures inside { IfSome result (λ r. r.1 < length r.0.now) }
         ensures must { IsSweptAt image.now self.now.run_state.now edge → IsSome result }
     {
-        all_turns_pay();
-        instructions_fit();
-        questions_ignore_slots();
-        replies_are_safe();
-        stays_typed();
-        steps_are_safe();
-        tables_are_in_range();
+        turn_laws();
         let tables = image.image();
         self.swept_paths(tables, edge)
     }

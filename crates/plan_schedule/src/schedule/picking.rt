@@ -1,10 +1,12 @@
 //! The next event without a reply.
 
-ghost use Rattle.std.specs.Prelude.{◌≡◌, ◌<◌, ◌≤◌, ◌⊎◌, Bool, ℕ, IfNone, IfSome, IsTrue, IsFalse, length, slice_index};
+ghost use Rattle.std.specs.Prelude.{◌≡◌, ◌≢◌, ◌<◌, ◌≤◌, ◌⊎◌, Bool, ℕ, IfNone, IfSome, IsTrue, IsFalse, length, slice_index};
+ghost use Rattle.plan_schedule.specs.BucketRules.{edge_row, pool_row};
 ghost use Rattle.plan_schedule.specs.Scheduling.{IsSchedule, IsPlan, edges_of};
 ghost use Rattle.plan_schedule.specs.Phases.{phase_at};
-ghost use Rattle.plan_schedule.specs.Picking.{AtTakeStays, IsEmptyBucket, IsEnabled, StepsFirst, UnbegunStays, is_spent};
+ghost use Rattle.plan_schedule.specs.Picking.{AtTakeStays, IsEnabled, NoEdgeIn, NoPoolIn, StepsFirst, UnbegunStays, is_spent};
 
+use crate::bucket_rules::{EdgeBucket, PoolBucket};
 use crate::phase::Phase;
 use crate::plan::Plan;
 use crate::schedule::Schedule;
@@ -32,27 +34,28 @@ impl Schedule {
         keep > 0 && keep <= self.counts.failures
     }
 
-    /// Returns an edge in one of the first five buckets. Returns None if the bucket is empty.
-    fn edge_in_bucket(&self, plan: &Plan, bucket: u32) -> Option<u32>
+    /// Returns an edge in a bucket of edges that aren't at Take. Returns None if the bucket is empty.
+    #[inline]
+    fn edge_in_bucket(&self, plan: &Plan, bucket: EdgeBucket) -> Option<u32>
         requires schedule { IsSchedule plan.now self.now }
-        requires bucket { bucket < 5 }
-        ensures some { IfSome result (λ e. (e < edges_of plan.now) × (slice_index self.now.buckets.bucket e ≡ bucket)) }
-        ensures none { IfNone result (IsEmptyBucket self.now.buckets.bucket bucket) }
+        requires bucket { edge_row bucket < 5 }
+        ensures some { IfSome result (λ e. (e < edges_of plan.now) × (slice_index self.now.buckets.bucket e ≡ edge_row bucket)) }
+        ensures none { IfNone result (NoEdgeIn self.now bucket) }
     {
-        self.buckets.top(bucket)
+        self.buckets.top(bucket.row())
     }
 
     /// Returns an edge at Take whose pool is in this bucket of pools. Returns None if the bucket is empty.
-    fn at_take(&self, plan: &Plan, pool_bucket: u32) -> Option<u32>
+    #[inline]
+    fn at_take(&self, plan: &Plan, pool_bucket: PoolBucket) -> Option<u32>
         requires plan { IsPlan plan.now }
         requires schedule { IsSchedule plan.now self.now }
-        requires bucket { pool_bucket < 3 }
-        requires taken { 0 < pool_bucket }
-        ensures some { IfSome result (λ e. (e < edges_of plan.now) × ((h : Bool) × (phase_at self.now.phases.items e ≡ Phase.AtTake h)) × (slice_index self.now.pool_buckets.bucket (slice_index plan.now.pools.items e) ≡ pool_bucket)) }
-        ensures none { IfNone result (IsEmptyBucket self.now.pool_buckets.bucket pool_bucket) }
+        requires taken { pool_bucket ≢ PoolBucket.Idle }
+        ensures some { IfSome result (λ e. (e < edges_of plan.now) × ((h : Bool) × (phase_at self.now.phases.items e ≡ Phase.AtTake h)) × (slice_index self.now.pool_buckets.bucket (slice_index plan.now.pools.items e) ≡ pool_row pool_bucket)) }
+        ensures none { IfNone result (NoPoolIn self.now pool_bucket) }
     {
-        match self.pool_buckets.top(pool_bucket) {
-            Some(pool) => self.buckets.top(5 + pool),
+        match self.pool_buckets.top(pool_bucket.row()) {
+            Some(pool) => self.buckets.top(EdgeBucket::AtTakeOf(pool).row()),
             None => None,
         }
     }
@@ -63,13 +66,13 @@ impl Schedule {
         requires plan { IsPlan plan.now }
         requires schedule { IsSchedule plan.now self.now }
         ensures some { IfSome result (λ pick. IsEnabled plan.now self.now.phases.items jobs keep pick) }
-        ensures steps { IsEmptyBucket self.now.buckets.bucket 4 → IfSome result (λ pick. StepsFirst plan.now self.now.phases.items jobs keep pick) }
+        ensures steps { NoEdgeIn self.now EdgeBucket.Steppable → IfSome result (λ pick. StepsFirst plan.now self.now.phases.items jobs keep pick) }
         ensures none { IfNone result (AtTakeStays plan.now self.now jobs keep) }
     {
         if self.is_spent(plan, keep) {
-            return match self.at_take(plan, 1) {
+            return match self.at_take(plan, PoolBucket::Free) {
                 Some(edge) => Some(Pick::Stop(edge)),
-                None => match self.at_take(plan, 2) {
+                None => match self.at_take(plan, PoolBucket::Full) {
                     Some(edge) => Some(Pick::Stop(edge)),
                     None => None,
                 },
@@ -78,7 +81,7 @@ impl Schedule {
         if self.counts.holders >= jobs {
             return None;
         }
-        match self.at_take(plan, 1) {
+        match self.at_take(plan, PoolBucket::Free) {
             Some(edge) => Some(Pick::Step(edge)),
             None => None,
         }
@@ -91,14 +94,14 @@ impl Schedule {
         ensures some { IfSome result (λ pick. IsEnabled plan.now self.now.phases.items jobs keep pick) }
         ensures none { IfNone result (UnbegunStays self.now keep) }
     {
-        if let Some(edge) = self.edge_in_bucket(plan, 3) {
+        if let Some(edge) = self.edge_in_bucket(plan, EdgeBucket::Skippable) {
             return match self.failed_wait[edge as usize] {
                 Some(wait) => Some(Pick::Skip(edge, wait)),
                 None => unreachable!(),
             };
         }
         let spent = self.is_spent(plan, keep);
-        match self.edge_in_bucket(plan, 2) {
+        match self.edge_in_bucket(plan, EdgeBucket::Startable) {
             Some(edge) => {
                 if spent {
                     return Some(Pick::Stop(edge));
@@ -109,7 +112,7 @@ impl Schedule {
                 if !spent {
                     return None;
                 }
-                match self.edge_in_bucket(plan, 1) {
+                match self.edge_in_bucket(plan, EdgeBucket::Pending) {
                     Some(edge) => Some(Pick::Stop(edge)),
                     None => None,
                 }
@@ -126,7 +129,7 @@ impl Schedule {
         ensures steps { IfSome result (λ pick. StepsFirst plan.now self.now.phases.items jobs keep pick) }
         ensures none { IfNone result ((pick : Pick) → IsEnabled plan.now self.now.phases.items jobs keep pick → ⊥) }
     {
-        match self.edge_in_bucket(plan, 4) {
+        match self.edge_in_bucket(plan, EdgeBucket::Steppable) {
             Some(edge) => Some(Pick::Step(edge)),
             None => match self.pick_at_take(plan, jobs, keep) {
                 Some(pick) => Some(pick),

@@ -2,11 +2,4 @@ use Rattle.plan_machine.proofs.AgreementLemmas.{interleavings_agree}
 use Rattle.plan_machine.proofs.laws.interleavings_agree.Goals as goal
 
 pub returns : goal.returns
-returns c = interleavings_agree (record {
-  fit = c.instructions_fit.ensures;
-  steps_safe = c.steps_are_safe.ensures;
-  replies_safe = c.replies_are_safe.ensures;
-  stay_typed = c.stays_typed.ensures;
-  in_range = c.tables_are_in_range.ensures;
-  turns_pay = c.all_turns_pay.ensures;
-})
+returns c = interleavings_agree c.turn_laws.ensures

@@ -1,8 +1,8 @@
-use Rattle.std.proofs.Common.{◌≡◌, ◌<◌, ◌∙◌, ℕ, List, Option, None, false, ap, arith, get_or, length, map, refl, subst, sym}
+use Rattle.std.proofs.Common.{◌≡◌, ◌<◌, ◌∙◌, ℕ, List, Option, None, false, ap, get_or, length, map, refl, subst, sym}
 use Rattle.std.specs.Prelude.{count_by, replicate, slice_index}
 use Rattle.plan_schedule.specs.declared.phase.Phase.{Phase}
 use Rattle.plan_schedule.specs.Phases.{is_open}
-use Rattle.plan_schedule.specs.BucketRules.{AreBuckets, ArePoolBuckets}
+use Rattle.plan_schedule.specs.BucketRules.{AreBuckets, ArePoolBuckets, edge_row}
 use Rattle.plan_schedule.specs.Scheduling.{edges_of}
 use Rattle.plan_schedule.specs.Opening.{opening_bucket}
 use Rattle.plan_schedule.proofs.OpenLemmas.{opened}
@@ -33,6 +33,6 @@ returns-clause-schedule c =
     refl refl
     (c.open_count-open_edges.ensures ∙ ap (λ (l : List Phase). count_by is_open l) c.deref-4.ensures.value)
     buckets
-    (λ e h. c.in_ok-buckets.ensures.filed e (subst (λ k. e < k) (sym n) h) ∙ ap (λ (l : List ℕ). opening_bucket (get_or wanted e false) (slice_index l e)) c.deref-3.ensures.value)
+    (λ e h. c.in_ok-buckets.ensures.filed e (subst (λ k. e < k) (sym n) h) ∙ ap (λ (l : List ℕ). edge_row (opening_bucket (get_or wanted e false) (slice_index l e))) c.deref-3.ensures.value)
     (c.in_ok-pool_buckets.ensures.bucket ∙ ap (λ k. replicate {A = ℕ} k 0) pools)
     (subst (λ k. ArePoolBuckets k g) pools c.in_ok-pool_buckets.ensures.buckets)

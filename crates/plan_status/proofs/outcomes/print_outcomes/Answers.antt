@@ -24,7 +24,7 @@ returns-in-Err g c =
     let new : ℕ × Option (List ℕ) = (g.W.Sink.failures c.print_outcome.new.out, g.W.Sink.taken c.print_outcome.new.out) in
     let printed : Prints (edge_line p i edge c.outcome-outcome.result) (Some c.in-Err.fault) mid new
     = subst (λ (q : Parts). Prints (edge_line q i edge c.outcome-outcome.result) (Some c.in-Err.fault) mid new) same c.in-Err.ensures in
-    stops c.prints_join.ensures.join c.prints_join.ensures.stopped old mid new so_far.0 (edge_line p i edge c.outcome-outcome.result)
+    stops c.join_laws.ensures.join c.join_laws.ensures.stopped old mid new so_far.0 (edge_line p i edge c.outcome-outcome.result)
     (outcomes_from p s (i + 1) rest) (outcomes_of p s) c.in-Err.fault whole so_far.2 printed
 
 pub loop-number-preserved : goal.loop-number-preserved
@@ -43,5 +43,5 @@ loop-number-preserved g c =
     let printed : Prints line None mid new = subst (λ (q : Parts). Prints (edge_line q i edge c.outcome-outcome.result) None mid new) same c.in-Ok.ensures in (
       so_far.0 ++ line,
       one_more p s i edge c.outcome-outcome.result (drop i p.edges) (drop (i + 1) p.edges) so_far.0 (outcomes_of p s) left c.outcome-outcome.ensures so_far.1,
-      c.writes_join.ensures.join true old mid new so_far.0 line so_far.2 printed,
+      c.join_laws.ensures.writes true old mid new so_far.0 line so_far.2 printed,
     )

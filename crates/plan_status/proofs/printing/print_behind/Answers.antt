@@ -40,7 +40,7 @@ returns-in-Err g c =
     let new : ℕ × Option (List ℕ) = (g.W.Sink.failures c.print_line.new.out, g.W.Sink.taken c.print_line.new.out) in
     let printed : Prints (line_of p c.args.total n x) (Some c.in-Err.fault) mid new
     = subst (λ (q : Parts). Prints (line_of q c.args.total n x) (Some c.in-Err.fault) mid new) same c.in-Err.ensures in
-    stops c.prints_join.ensures.join c.prints_join.ensures.stopped old mid new so_far.0 (line_of p c.args.total n x)
+    stops c.join_laws.ensures.join c.join_laws.ensures.stopped old mid new so_far.0 (line_of p c.args.total n x)
     (lines_behind p c.args.total (take (i + 1) marks) (drop (i + 1) marks)) whole c.in-Err.fault on so_far.4 printed
 
 pub loop-at-preserved : goal.loop-at-preserved
@@ -66,5 +66,5 @@ loop-at-preserved g c =
       count,
       from,
       one_more p c.args.total marks i (Started 0) n so_far.0 (lines_behind p c.args.total (take c.args.from marks) (drop c.args.from marks)) c.loop-at-test.true count so_far.3,
-      c.writes_join.ensures.join true old mid new so_far.0 line so_far.4 printed,
+      c.join_laws.ensures.writes true old mid new so_far.0 line so_far.4 printed,
     )

@@ -1,9 +1,7 @@
-use Rattle.std.proofs.Common.{◌≡◌, ◌≢◌, ◌<◌, ◌+◌, ◌∙◌, ℕ, List, None, Some, Option, ap, arith, get_or, length, refl, set, sym, subst}
+use Rattle.std.proofs.Common.{◌≡◌, ◌<◌, ◌∙◌, ℕ, List, ap, arith, length, refl, set, subst}
 use Rattle.std.specs.Prelude.{slice_index}
 use Rattle.std.proofs.lemmas.List.{get_or_default}
-use Rattle.plan_schedule.specs.BucketContents.{bucket_len}
 use Rattle.plan_schedule.specs.Counts.{AreCounts}
-use Rattle.plan_schedule.specs.BucketRules.{pool_bucket_for}
 use Rattle.plan_schedule.specs.declared.phase.Phase.{Phase}
 use Rattle.plan_schedule.proofs.ScheduleLemmas.{its_same, kept_entered, pool_at, moved}
 use Rattle.plan_schedule.proofs.schedule.Schedule.recount.Goals as goal

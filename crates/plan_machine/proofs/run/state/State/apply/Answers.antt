@@ -4,37 +4,22 @@ use Rattle.plan_image.specs.declared.image.Parts.{Parts}
 use Rattle.plan_machine.specs.Applying.{Applied, CanTurn}
 use Rattle.plan_machine.specs.Hearing.{CanHear}
 use Rattle.plan_machine.specs.Kept.{AreKept}
-use Rattle.plan_machine.proofs.VerifyLaws.{VerifyLaws}
 use Rattle.plan_machine.proofs.StateLemmas.{can_hear, can_turn, left_behind, next_state, state_stands}
 use Rattle.plan_machine.proofs.run.state.State.apply.Goals as goal
 
 pub change-requires-clause-turns : goal.change-requires-clause-turns
 change-requires-clause-turns c e l at =
     let r = c.args.self.now in
-    let laws : VerifyLaws = record {
-      fit = c.instructions_fit.ensures;
-      steps_safe = c.steps_are_safe.ensures;
-      replies_safe = c.replies_are_safe.ensures;
-      stay_typed = c.stays_typed.ensures;
-      in_range = c.tables_are_in_range.ensures;
-      turns_pay = c.all_turns_pay.ensures;
-    } in
+    let laws = c.turn_laws.ensures in
     let stands = state_stands laws c.args.image.now c.image-tables.ensures.shaped r c.requires in
     subst (λ (p : Parts). CanTurn p r.run_state.now.slots e l) (sym c.image-tables.ensures.same) (can_turn laws c.args.image.now c.image-tables.ensures.shaped r.run_state.limits r.run_state.now stands e l at)
 
 pub change-requires-clause-hears : goal.change-requires-clause-hears
 change-requires-clause-hears c e a l at =
     let r = c.args.self.now in
-    let laws : VerifyLaws = record {
-      fit = c.instructions_fit.ensures;
-      steps_safe = c.steps_are_safe.ensures;
-      replies_safe = c.replies_are_safe.ensures;
-      stay_typed = c.stays_typed.ensures;
-      in_range = c.tables_are_in_range.ensures;
-      turns_pay = c.all_turns_pay.ensures;
-    } in
+    let laws = c.turn_laws.ensures in
     let stands = state_stands laws c.args.image.now c.image-tables.ensures.shaped r c.requires in
-    subst (λ (p : Parts). CanHear p e a l) (sym c.image-tables.ensures.same) (can_hear laws c.questions_ignore_slots.ensures c.args.image.now r.run_state.now stands e a l at)
+    subst (λ (p : Parts). CanHear p e a l) (sym c.image-tables.ensures.same) (can_hear laws laws.ignore_slots c.args.image.now r.run_state.now stands e a l at)
 
 pub note-requires : goal.note-requires
 note-requires c =

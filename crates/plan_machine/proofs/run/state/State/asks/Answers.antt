@@ -4,21 +4,13 @@ use Rattle.plan_machine.specs.Applying.{CanTurn}
 use Rattle.plan_machine.specs.Requests.{asks_by}
 use Rattle.plan_machine.proofs.AsksLemmas.{shown_asks, shown_nothing}
 use Rattle.plan_machine.proofs.StateLemmas.{can_turn, state_stands}
-use Rattle.plan_machine.proofs.VerifyLaws.{VerifyLaws}
 use Rattle.plan_machine.proofs.run.state.State.asks.Goals as goal
 
 pub asked_by-requires-clause-turns : goal.asked_by-requires-clause-turns
 asked_by-requires-clause-turns c e l at =
     let r = c.args.self.now in
     let p = c.args.image.now in
-    let laws : VerifyLaws = record {
-      fit = c.instructions_fit.ensures;
-      steps_safe = c.steps_are_safe.ensures;
-      replies_safe = c.replies_are_safe.ensures;
-      stay_typed = c.stays_typed.ensures;
-      in_range = c.tables_are_in_range.ensures;
-      turns_pay = c.all_turns_pay.ensures;
-    } in
+    let laws = c.turn_laws.ensures in
     let stands = state_stands laws p c.image-tables.ensures.shaped r c.requires in
     subst (λ (x : Parts). CanTurn x r.run_state.now.slots e l) (sym c.image-tables.ensures.same) (can_turn laws p c.image-tables.ensures.shaped r.run_state.limits r.run_state.now stands e l at)
 

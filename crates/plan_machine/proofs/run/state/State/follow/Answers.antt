@@ -13,7 +13,6 @@ use Rattle.plan_machine.specs.Replaying.{RunsTo}
 use Rattle.plan_machine.specs.Runs.{Runs}
 use Rattle.plan_machine.specs.LocalRuns.{moves_of, local_run_events, local_run_marks, steps_of}
 use Rattle.plan_machine.specs.State.{Active, State}
-use Rattle.plan_machine.proofs.VerifyLaws.{VerifyLaws}
 use Rattle.plan_machine.proofs.LocalRunLemmas.{all_local_run, follow_behind, follow_run, follow_state, run_turns}
 use Rattle.plan_machine.proofs.StateLemmas.{can_hear, can_turn, state_stands}
 use Rattle.plan_machine.proofs.run.state.State.follow.Goals as goal
@@ -21,30 +20,16 @@ use Rattle.plan_machine.proofs.run.state.State.follow.Goals as goal
 pub change-requires-clause-turns : goal.change-requires-clause-turns
 change-requires-clause-turns c e l at =
     let r = c.args.self.now in
-    let laws : VerifyLaws = record {
-      fit = c.instructions_fit.ensures;
-      steps_safe = c.steps_are_safe.ensures;
-      replies_safe = c.replies_are_safe.ensures;
-      stay_typed = c.stays_typed.ensures;
-      in_range = c.tables_are_in_range.ensures;
-      turns_pay = c.all_turns_pay.ensures;
-    } in
+    let laws = c.turn_laws.ensures in
     let stands = state_stands laws c.args.image.now c.image-tables.ensures.shaped r c.requires in
     subst (λ (p : Parts). CanTurn p r.run_state.now.slots e l) (sym c.image-tables.ensures.same) (can_turn laws c.args.image.now c.image-tables.ensures.shaped r.run_state.limits r.run_state.now stands e l at)
 
 pub change-requires-clause-hears : goal.change-requires-clause-hears
 change-requires-clause-hears c e a l at =
     let r = c.args.self.now in
-    let laws : VerifyLaws = record {
-      fit = c.instructions_fit.ensures;
-      steps_safe = c.steps_are_safe.ensures;
-      replies_safe = c.replies_are_safe.ensures;
-      stay_typed = c.stays_typed.ensures;
-      in_range = c.tables_are_in_range.ensures;
-      turns_pay = c.all_turns_pay.ensures;
-    } in
+    let laws = c.turn_laws.ensures in
     let stands = state_stands laws c.args.image.now c.image-tables.ensures.shaped r c.requires in
-    subst (λ (p : Parts). CanHear p e a l) (sym c.image-tables.ensures.same) (can_hear laws c.questions_ignore_slots.ensures c.args.image.now r.run_state.now stands e a l at)
+    subst (λ (p : Parts). CanHear p e a l) (sym c.image-tables.ensures.same) (can_hear laws laws.ignore_slots c.args.image.now r.run_state.now stands e a l at)
 
 pub run_local_steps-local_run-requires-clause-turns : goal.run_local_steps-local_run-requires-clause-turns
 run_local_steps-local_run-requires-clause-turns c =
@@ -54,14 +39,7 @@ run_local_steps-local_run-requires-clause-turns c =
     let x = Hear e c.args.reply in
     let told = c.in_ok-mark.mark in
     let mid = c.change.new.self.run_state in
-    let laws : VerifyLaws = record {
-      fit = c.instructions_fit.ensures;
-      steps_safe = c.steps_are_safe.ensures;
-      replies_safe = c.replies_are_safe.ensures;
-      stay_typed = c.stays_typed.ensures;
-      in_range = c.tables_are_in_range.ensures;
-      turns_pay = c.all_turns_pay.ensures;
-    } in
+    let laws = c.turn_laws.ensures in
     let applied : Applied p r.run_state x (Ok told) mid = subst (λ (y : Parts). Applied y r.run_state x (Ok told) mid) c.image-tables.ensures.same c.in_ok-mark.ensures.applied in
     subst (λ (y : Parts). (n : ℕ) (s : State) → Runs depfile y mid.limits mid.now (steps_of e n) (moves_of e n) s → (l : Local) → slice_get s.edges e ≡ Some (Active l) → CanTurn y s.slots e l)
     (sym c.image-tables.ensures.same)

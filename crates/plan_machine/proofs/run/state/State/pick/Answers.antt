@@ -11,21 +11,13 @@ use Rattle.plan_machine.specs.Picking.{IsEnabled, StepsFirst}
 use Rattle.plan_machine.proofs.NeverStuckLemmas.{never_stuck}
 use Rattle.plan_machine.proofs.PickLemmas.{none_picked, none_stuck, picked, step_first}
 use Rattle.plan_machine.proofs.StateLemmas.{state_stands}
-use Rattle.plan_machine.proofs.VerifyLaws.{VerifyLaws}
 use Rattle.plan_machine.proofs.run.state.State.pick.Goals as goal
 
 pub returns-in-Some-clause-enabled : goal.returns-in-Some-clause-enabled
 returns-in-Some-clause-enabled c =
     let r : Running = record { run_state = c.self.inside.machine; plan = c.self.inside.plan; schedule = c.self.inside.schedule; total = c.self.inside.total } in
     let p = c.args.image.now in
-    let laws : VerifyLaws = record {
-      fit = c.instructions_fit.ensures;
-      steps_safe = c.steps_are_safe.ensures;
-      replies_safe = c.replies_are_safe.ensures;
-      stay_typed = c.stays_typed.ensures;
-      in_range = c.tables_are_in_range.ensures;
-      turns_pay = c.all_turns_pay.ensures;
-    } in
+    let laws = c.turn_laws.ensures in
     let is : IsStateOf p r = subst (IsStateOf p) (sym c.self.view_is) c.requires in
     let shaped = c.image-tables.ensures.shaped in
     let stands = state_stands laws p shaped r is in
@@ -41,14 +33,7 @@ pub returns-in-Some-clause-steps : goal.returns-in-Some-clause-steps
 returns-in-Some-clause-steps c =
     let r : Running = record { run_state = c.self.inside.machine; plan = c.self.inside.plan; schedule = c.self.inside.schedule; total = c.self.inside.total } in
     let p = c.args.image.now in
-    let laws : VerifyLaws = record {
-      fit = c.instructions_fit.ensures;
-      steps_safe = c.steps_are_safe.ensures;
-      replies_safe = c.replies_are_safe.ensures;
-      stay_typed = c.stays_typed.ensures;
-      in_range = c.tables_are_in_range.ensures;
-      turns_pay = c.all_turns_pay.ensures;
-    } in
+    let laws = c.turn_laws.ensures in
     let is : IsStateOf p r = subst (IsStateOf p) (sym c.self.view_is) c.requires in
     let shaped = c.image-tables.ensures.shaped in
     let stands = state_stands laws p shaped r is in
@@ -64,14 +49,7 @@ pub returns-in-None-clause-none : goal.returns-in-None-clause-none
 returns-in-None-clause-none c =
     let r : Running = record { run_state = c.self.inside.machine; plan = c.self.inside.plan; schedule = c.self.inside.schedule; total = c.self.inside.total } in
     let p = c.args.image.now in
-    let laws : VerifyLaws = record {
-      fit = c.instructions_fit.ensures;
-      steps_safe = c.steps_are_safe.ensures;
-      replies_safe = c.replies_are_safe.ensures;
-      stay_typed = c.stays_typed.ensures;
-      in_range = c.tables_are_in_range.ensures;
-      turns_pay = c.all_turns_pay.ensures;
-    } in
+    let laws = c.turn_laws.ensures in
     let is : IsStateOf p r = subst (IsStateOf p) (sym c.self.view_is) c.requires in
     let shaped = c.image-tables.ensures.shaped in
     let stands = state_stands laws p shaped r is in
@@ -87,14 +65,7 @@ pub returns-in-None-clause-waits : goal.returns-in-None-clause-waits
 returns-in-None-clause-waits c =
     let r : Running = record { run_state = c.self.inside.machine; plan = c.self.inside.plan; schedule = c.self.inside.schedule; total = c.self.inside.total } in
     let p = c.args.image.now in
-    let laws : VerifyLaws = record {
-      fit = c.instructions_fit.ensures;
-      steps_safe = c.steps_are_safe.ensures;
-      replies_safe = c.replies_are_safe.ensures;
-      stay_typed = c.stays_typed.ensures;
-      in_range = c.tables_are_in_range.ensures;
-      turns_pay = c.all_turns_pay.ensures;
-    } in
+    let laws = c.turn_laws.ensures in
     let is : IsStateOf p r = subst (IsStateOf p) (sym c.self.view_is) c.requires in
     let shaped = c.image-tables.ensures.shaped in
     let stands = state_stands laws p shaped r is in

@@ -6,21 +6,13 @@ use Rattle.plan_machine.specs.Requests.{asked_at}
 use Rattle.plan_machine.specs.Working.{Works}
 use Rattle.plan_machine.proofs.RequestLemmas.{asked_is, some_shown}
 use Rattle.plan_machine.proofs.StateLemmas.{can_turn, state_stands}
-use Rattle.plan_machine.proofs.VerifyLaws.{VerifyLaws}
 use Rattle.plan_machine.proofs.run.state.State.request.Goals as goal
 
 pub awaited_request-requires : goal.awaited_request-requires
 awaited_request-requires c l at =
     let r : Running = record { run_state = c.self.inside.machine; plan = c.self.inside.plan; schedule = c.self.inside.schedule; total = c.self.inside.total } in
     let p = c.args.image.now in
-    let laws : VerifyLaws = record {
-      fit = c.instructions_fit.ensures;
-      steps_safe = c.steps_are_safe.ensures;
-      replies_safe = c.replies_are_safe.ensures;
-      stay_typed = c.stays_typed.ensures;
-      in_range = c.tables_are_in_range.ensures;
-      turns_pay = c.all_turns_pay.ensures;
-    } in
+    let laws = c.turn_laws.ensures in
     let is : IsStateOf p r = subst (IsStateOf p) (sym c.self.view_is) c.requires in
     let stands = state_stands laws p c.image-tables.ensures.shaped r is in
     subst (λ (x : Parts). Works (turn x c.args.edge r.run_state.now.slots l)) (sym c.image-tables.ensures.same)
@@ -30,14 +22,7 @@ pub returns-clause-some : goal.returns-clause-some
 returns-clause-some c l at loud =
     let r : Running = record { run_state = c.self.inside.machine; plan = c.self.inside.plan; schedule = c.self.inside.schedule; total = c.self.inside.total } in
     let p = c.args.image.now in
-    let laws : VerifyLaws = record {
-      fit = c.instructions_fit.ensures;
-      steps_safe = c.steps_are_safe.ensures;
-      replies_safe = c.replies_are_safe.ensures;
-      stay_typed = c.stays_typed.ensures;
-      in_range = c.tables_are_in_range.ensures;
-      turns_pay = c.all_turns_pay.ensures;
-    } in
+    let laws = c.turn_laws.ensures in
     let is : IsStateOf p r = subst (IsStateOf p) (sym c.self.view_is) c.requires in
     let stands = state_stands laws p c.image-tables.ensures.shaped c.args.self.now c.requires in
     some_shown c.awaited_request.result (asked_at p c.args.self.now.run_state.now c.args.edge)

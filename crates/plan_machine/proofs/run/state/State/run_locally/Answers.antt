@@ -10,7 +10,6 @@ use Rattle.plan_machine.specs.Replaying.{RunsTo}
 use Rattle.plan_machine.specs.Runs.{Runs}
 use Rattle.plan_machine.specs.LocalRuns.{moves_of, local_run_events, local_run_marks, steps_of}
 use Rattle.plan_machine.specs.State.{Active, State}
-use Rattle.plan_machine.proofs.VerifyLaws.{VerifyLaws}
 use Rattle.plan_machine.proofs.LocalRunLemmas.{run_turns, local_run_behind, local_run_state}
 use Rattle.plan_machine.proofs.run.state.State.run_locally.Goals as goal
 
@@ -19,14 +18,7 @@ run_local_steps-local_run-requires-clause-turns c =
     let r = c.args.self.now in
     let e = c.args.edge in
     let p = c.args.image.now in
-    let laws : VerifyLaws = record {
-      fit = c.instructions_fit.ensures;
-      steps_safe = c.steps_are_safe.ensures;
-      replies_safe = c.replies_are_safe.ensures;
-      stay_typed = c.stays_typed.ensures;
-      in_range = c.tables_are_in_range.ensures;
-      turns_pay = c.all_turns_pay.ensures;
-    } in
+    let laws = c.turn_laws.ensures in
     subst (λ (x : Parts). (n : ℕ) (s : State) → Runs depfile x r.run_state.limits r.run_state.now (steps_of e n) (moves_of e n) s → (l : Local) → slice_get s.edges e ≡ Some (Active l) → CanTurn x s.slots e l)
     (sym c.image-tables.ensures.same)
     (λ n s run l at. run_turns laws p c.image-tables.ensures.shaped r c.requires (steps_of e n) (moves_of e n) s run e l at)

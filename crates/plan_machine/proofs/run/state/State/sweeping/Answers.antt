@@ -4,7 +4,6 @@ use Rattle.std.proofs.lemmas.Option.{IfSome_then}
 use Rattle.plan_image.specs.declared.image.Parts.{Parts}
 use Rattle.plan_verify.specs.Turn.{Stat, StampIs, question}
 use Rattle.plan_machine.specs.Requests.{asked_at}
-use Rattle.plan_machine.proofs.VerifyLaws.{VerifyLaws}
 use Rattle.plan_machine.proofs.StateLemmas.{can_hear, state_stands}
 use Rattle.plan_machine.proofs.SweptRowLemmas.{to_asked}
 use Rattle.plan_machine.proofs.run.state.State.sweeping.Goals as goal
@@ -13,18 +12,11 @@ pub swept_paths-requires : goal.swept_paths-requires
 swept_paths-requires c =
     let r = c.args.self.now in
     let e = c.args.edge in
-    let laws : VerifyLaws = record {
-      fit = c.instructions_fit.ensures;
-      steps_safe = c.steps_are_safe.ensures;
-      replies_safe = c.replies_are_safe.ensures;
-      stay_typed = c.stays_typed.ensures;
-      in_range = c.tables_are_in_range.ensures;
-      turns_pay = c.all_turns_pay.ensures;
-    } in
+    let laws = c.turn_laws.ensures in
     let stands = state_stands laws c.args.image.now c.image-tables.ensures.shaped r c.requires in
     record {
       asks = λ l at. subst (λ (p : Parts). l.asked ≡ true → IsSome (question p e [] l)) (sym c.image-tables.ensures.same)
-          (can_hear laws c.questions_ignore_slots.ensures c.args.image.now r.run_state.now stands e (StampIs 0) l at).asks;
+          (can_hear laws laws.ignore_slots c.args.image.now r.run_state.now stands e (StampIs 0) l at).asks;
     }
 
 pub returns-clause-asked : goal.returns-clause-asked

@@ -1,4 +1,4 @@
--- The laws of plan_verify that these proofs use.
+-- The ranks of edges and of their waits.
 use Rattle.std.proofs.Common.{◌≡◌, ℕ, ◌<◌, true, length, Option, Some, None, sym, ap, ◌∙◌, arith}
 use Rattle.std.specs.Prelude.{slice_get, Contains}
 use Rattle.std.proofs.lemmas.Option.{slice_get_within}
@@ -7,22 +7,8 @@ use Rattle.plan_image.specs.declared.image.Parts.{Parts}
 use Rattle.plan_verify.specs.Members.{is_member}
 use Rattle.plan_verify.specs.Tables.{waits_in, waits_of}
 use Rattle.plan_verify.specs.WellShaped.{IsWellShaped}
-use Rattle.plan_verify.specs.Sound.{InstructionsFit, StepsAreSafe, RepliesAreSafe}
-use Rattle.plan_verify.specs.Seam.{StaysTyped}
-use Rattle.plan_verify.specs.Worth.{AllTurnsPay}
 use Rattle.plan_verify.specs.Facts.{TablesAreInRange}
 use Rattle.plan_machine.proofs.ListLemmas.{get_inside, member_contained}
-
--- A public law calls those of plan_verify, and passes them on in this record.
-pub record VerifyLaws : Type 0 where
-  pub fit : InstructionsFit
-  pub steps_safe : StepsAreSafe
-  pub replies_safe : RepliesAreSafe
-  pub stay_typed : StaysTyped
-  pub in_range : TablesAreInRange
-  pub turns_pay : AllTurnsPay
-
--- ---- ranks
 
 abbrev pub rank_in : Option Edge → ℕ
 rank_in (Some edge) = edge.rank
