@@ -1,11 +1,12 @@
 //! The shells of a build, and what is shown of what their commands print.
 
 use crate::held_outputs::HeldOutputs;
-use plan_output::shown_output;
+use plan_output::{shown_output, signal_line};
 use plan_world::{Printed, Shells, SystemShells};
-use std::alloc::Global;
+use std::alloc::{AllocError, Global};
 use std::env;
 use std::io::{self, IsTerminal};
+use std::os::unix::process::ExitStatusExt;
 use std::process::{Command, ExitStatus, Processes};
 use std::rt::{Env, Files};
 use std::sync::Wait;
@@ -38,12 +39,21 @@ impl<'a, R> BuildShells<'a, R> {
     }
 }
 
+/// Adds to the output of a command which signal ended it, if one did.
+fn add_signal(text: &mut Vec<u8>, status: &ExitStatus) -> Result<(), AllocError> {
+    match status.signal() {
+        Some(signal) => text.extend_from_slice(signal_line(u8::try_from(signal).unwrap_or(0))),
+        None => Ok(()),
+    }
+}
+
 impl<R: Processes + Files + Wait> Shells for BuildShells<'_, R> {
     ghost ended = { λ _ _. Unit {0} };
 
     fn output(&self, shell: Command, edge: &[u8]) -> io::Result<Printed> {
         let Printed { status, text } = self.shells.output(shell, edge)?;
-        let text = shown_output(self.alloc, text, self.escapes)?;
+        let mut text = shown_output(self.alloc, text, self.escapes)?;
+        add_signal(&mut text, &status)?;
         let text = match self.outputs.hold(self.alloc, edge, text) {
             None => Vec::new(self.alloc),
             // Without memory it is shown now, before its label.

@@ -10,7 +10,6 @@
 
 mod commands;
 mod request;
-mod run;
 
+pub use commands::RunWords;
 pub use request::{EarlyExit, FileRequest, Request, request_in, words_in};
-pub use run::RunWords;

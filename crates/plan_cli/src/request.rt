@@ -1,13 +1,11 @@
 //! Requests of the command line.
 
-use crate::commands::program_command;
-use crate::run::{RunWords, run_words};
+use crate::commands::{RunWords, program_command, run_words};
 use clap::error::ErrorKind;
 use clap::{ArgMatches, Error};
 use std::alloc::{AllocError, Global};
 use std::rt::Env;
 use std::{env, io};
-
 /// A request of the command line.
 #[derive(Drop)]
 pub enum Request<'a> {

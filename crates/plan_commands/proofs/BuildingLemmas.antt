@@ -12,7 +12,7 @@ use Rattle.plan_image.specs.declared.image.Parts.{Parts}
 use Rattle.plan_compile.specs.declared.baseline.OutOfDateRule.TheVariants.{Stricter}
 use Rattle.plan_machine.specs.State.{Status, has_ended, outcome_at}
 use Rattle.plan_machine.specs.Wanted.{any_outside}
-use Rattle.plan_machine.specs.declared.event.mark.Outcome.TheVariants.{Ran}
+use Rattle.plan_machine.specs.declared.event.Outcome.TheVariants.{Ran}
 use Rattle.plan_machine.specs.declared.run.refused.Refused.TheVariants as refused
 use Rattle.plan_lanes.specs.Faults.{FaultReports}
 use Rattle.plan_lanes.specs.Journals.{Rule}

@@ -2,7 +2,7 @@
 use Rattle.std.proofs.Common.{◌≡◌, ◌∙◌, ℕ, zero, true, List, [], Option, Some, None, Result, Ok, Err, IfOk, IfErr, IfSome, refl, sym, ap, subst, arith}
 use Rattle.std.proofs.KnownBytes.{Appends-nil}
 use Rattle.plan_image.specs.declared.image.Parts.{Parts}
-use Rattle.plan_machine.specs.declared.event.mark.Mark.{Mark}
+use Rattle.plan_machine.specs.declared.event.Mark.{Mark}
 use Rattle.plan_machine.specs.Kept.{IsStateOf}
 use Rattle.plan_machine.specs.State.{has_ended}
 use Rattle.plan_machine.specs.Total.{total_of}

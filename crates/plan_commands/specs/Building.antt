@@ -9,8 +9,8 @@ use Rattle.plan_scope.specs.declared.manifest.Manifest.{Manifest}
 use Rattle.plan_image.specs.declared.image.Parts.{Parts}
 use Rattle.plan_compile.specs.declared.baseline.OutOfDateRule.TheVariants.{Stricter}
 use Rattle.plan_machine.specs.Limits.{Limits}
-use Rattle.plan_machine.specs.declared.event.mark.Outcome.{Outcome}
-use Rattle.plan_machine.specs.declared.event.mark.Outcome.TheVariants.{Ran}
+use Rattle.plan_machine.specs.declared.event.Outcome.{Outcome}
+use Rattle.plan_machine.specs.declared.event.Outcome.TheVariants.{Ran}
 use Rattle.plan_machine.specs.State.{outcome_at}
 use Rattle.plan_status.specs.Outcomes.{all_done}
 use Rattle.plan_status.specs.declared.fault.PrintFault.{PrintFault}

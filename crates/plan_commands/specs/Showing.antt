@@ -1,7 +1,7 @@
 -- How runs are shown: what is printed of their marks.
 use Rattle.std.specs.Prelude.{◌≡◌, ℕ, List, Option}
 use Rattle.plan_image.specs.declared.image.Parts.{Parts}
-use Rattle.plan_machine.specs.declared.event.mark.Mark.{Mark}
+use Rattle.plan_machine.specs.declared.event.Mark.{Mark}
 use Rattle.plan_machine.specs.Total.{total_of}
 use Rattle.plan_status.specs.Formats.{HasPrinted}
 use Rattle.plan_status.specs.Lines.{lines_of}

@@ -8,9 +8,9 @@ ghost use Rattle.plan_commands.specs.Faults.{no_memory, output_fault, traces_dif
 ghost use Rattle.plan_text.specs.Sinks.{Writes};
 
 use crate::fault::{PlanFault, no_memory, output_fault};
+use crate::images::verified_at;
 use crate::replay_fault::printed_refusal;
 use crate::replaying::trace_at;
-use crate::verdicts::verified_at;
 use plan_machine::same_end;
 use plan_scope::Source;
 use plan_text::{Items, Sink, write_all};

@@ -15,7 +15,6 @@
 //! docs/using/running.md, docs/rules/replay.md and docs/rules/manifest.md have the rules one by one.
 #![tactic(auto)]
 
-mod buffer;
 mod building;
 mod commands;
 mod comparing;
@@ -28,17 +27,13 @@ mod graph_fault;
 mod image_fault;
 mod images;
 mod laws;
-mod makers;
 mod printed_runs;
 mod replay_fault;
 mod replaying;
 mod running;
 mod screen;
-mod streams;
 mod targets;
-mod verdicts;
 
-pub use buffer::{Buffer, ended};
 pub use building::{Done, Order, do_build};
 pub use commands::do_commands;
 pub use comparing::{Compared, do_compare};
@@ -47,11 +42,9 @@ pub use dry::do_dry_build;
 pub use fault::{PlanFault, file_fault, lost_output, no_memory, printed_fault};
 pub use files::{FileSource, IMAGE_BYTES, MANIFEST_BYTES, NewFile, TRACE_BYTES};
 pub use graph_fault::printed_graph_fault;
-pub use images::do_dump;
+pub use images::{do_dump, do_verify};
 pub use laws::{build_is_right, idle_builds_run_nothing};
 pub use printed_runs::Printer;
 pub use replaying::do_replay;
 pub use running::{Build, do_run};
-pub use screen::{Screen, Standard};
-pub use streams::open_streams;
-pub use verdicts::do_verify;
+pub use screen::{Buffer, Screen, Standard, ended, open_streams};

@@ -10,8 +10,8 @@ ghost use Rattle.plan_commands.specs.Faults as defined;
 ghost use Rattle.plan_commands.specs.Replaying.{FailsToReplay, FailsToTell, IsNotReplayed, IsRun, IsTraceAt, LacksRun, LacksTrace, Replays, StopsTelling, Tells, TellsNoEvents, run_status, run_text};
 
 use crate::fault::{PlanFault, file_fault, no_memory, output_fault};
+use crate::images::verified_at;
 use crate::replay_fault::{printed_refusal, trace_fault};
-use crate::verdicts::verified_at;
 use plan_machine::{Mark, State, replay};
 use plan_scope::{Source, SourceFault};
 use plan_status::{PrintFault, all_done, print, print_outcomes, prints_join};

@@ -14,9 +14,9 @@ ghost use Rattle.plan_commands.specs.Running as defined;
 ghost use Rattle.plan_commands.specs.Running.{FailsToRun, IsKeptFor, IsNotBegun, IsOpened, Runs, Tells, TellsAll, Traces, WritesTrace, lines_in};
 
 use crate::fault::{PlanFault, file_fault, lost_output, no_memory};
+use crate::images::verified_by;
 use crate::printed_runs::{Printer, RunResult, report_of, run_and_show};
 use crate::targets::targets_of;
-use crate::verdicts::verified_by;
 use plan_lanes::{Journaled, LaneFault, Report, World};
 use plan_machine::Options;
 use plan_scope::Source;

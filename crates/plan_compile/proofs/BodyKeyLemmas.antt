@@ -2,10 +2,10 @@
 use Rattle.std.proofs.Common.{◌≡◌, ℕ, ◌+◌, ◌*◌, ◌/◌, ◌<◌, true, false, [], ◌∷◌, refl, sym, ap, ◌∙◌, arith}
 use Rattle.std.proofs.lemmas.Nat.{div-mul-add, mod-mul-add}
 use Rattle.std.proofs.lemmas.Slice.Eq.{bytes_eq-Decides}
-use Rattle.plan_image.specs.declared.instr.Instr.TheVariants as op
-use Rattle.plan_image.specs.declared.instr.Opening.TheVariants as opening
-use Rattle.plan_image.specs.declared.instr.BodyInstr.{BodyInstr}
-use Rattle.plan_image.specs.declared.instr.BodyInstr.TheVariants as member
+use Rattle.plan_image.specs.declared.body.Instr.TheVariants as op
+use Rattle.plan_image.specs.declared.body.Opening.TheVariants as opening
+use Rattle.plan_image.specs.declared.body.BodyInstr.{BodyInstr}
+use Rattle.plan_image.specs.declared.body.BodyInstr.TheVariants as member
 use Rattle.plan_compile.specs.BodyKeys.{Body, numbers_of, member_by, member_number, member_at, body_at, key_of, same_body}
 use Rattle.plan_compile.proofs.NumberingLemmas.{Decides}
 

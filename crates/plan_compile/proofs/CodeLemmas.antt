@@ -3,7 +3,7 @@ use Rattle.std.proofs.Common.{◌≡◌, ℕ, suc, List, [], ◌∷◌, ◌++◌
 use Rattle.std.specs.Prelude.{All}
 use Rattle.std.proofs.lemmas.List.{append_assoc, append-nil}
 use Rattle.std.proofs.lemmas.List.Elements.{All-push}
-use Rattle.plan_image.specs.declared.instr.Instr.{Instr}
+use Rattle.plan_image.specs.declared.body.Instr.{Instr}
 use Rattle.plan_image.specs.Bodies.{body_of, leave_open, open_operand, operands_of, with_operands, IsSplit}
 use Rattle.plan_compile.specs.BodyKeys.{AreOf, Body, code_at, IsSmall, key_of, member_number}
 use Rattle.plan_compile.proofs.BodyKeyLemmas.{body_back}

@@ -4,7 +4,7 @@ use Rattle.std.proofs.Common.{◌≡◌, ℕ, zero, suc, ◌<◌, Bool, true, fa
 use Rattle.std.specs.Prelude.{◌||◌, ◌⊎◌, slice_get, ◌==◌}
 use Rattle.std.specs.List.{list_any}
 use Rattle.std.proofs.lemmas.Bool.{leb-false, eqb-true, eq-eqb}
-use Rattle.plan_image.specs.declared.instr.Kind.TheVariants as kind
+use Rattle.plan_image.specs.declared.body.Kind.TheVariants as kind
 use Rattle.plan_image.specs.declared.image.Parts.{Parts}
 use Rattle.plan_verify.specs.declared.value.Value.{Value}
 use Rattle.plan_verify.specs.declared.value.Value.TheVariants.{Stamp, Flag, Text, Paths, Swept}

@@ -3,8 +3,8 @@ use Rattle.std.proofs.Common.{◌≡◌, ℕ, suc, ◌+◌, ◌*◌, ◌-◌, �
 use Rattle.std.specs.Prelude.{not, if◌then◌else◌, Ok, Err}
 use Rattle.std.proofs.lemmas.Bool.{lt-ltb}
 use Rattle.plan_compile.specs.declared.fault.CompileFault.TheVariants.{Limit}
-use Rattle.plan_image.specs.declared.instr.Instr.{Instr}
-use Rattle.plan_image.specs.declared.instr.Instr.TheVariants as op
+use Rattle.plan_image.specs.declared.body.Instr.{Instr}
+use Rattle.plan_image.specs.declared.body.Instr.TheVariants as op
 use Rattle.plan_compile.specs.declared.baseline.Baseline.{Baseline}
 use Rattle.plan_compile.specs.declared.baseline.Baseline.TheVariants.{Outputs, Basis, OutputsAndBasis}
 use Rattle.plan_compile.specs.declared.layout.Output.{Output}

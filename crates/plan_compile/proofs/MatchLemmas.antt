@@ -4,7 +4,7 @@ use Rattle.std.specs.List.{AllByRecursion, IsDistinct}
 use Rattle.std.specs.Prelude.{bytes_eq, slice_get, option_map, if◌then◌else◌}
 use Rattle.std.proofs.lemmas.Option.{slice_get-map}
 use Rattle.std.proofs.lemmas.Slice.Eq.{bytes_eq-Decides}
-use Rattle.plan_image.specs.declared.instr.Instr.{Instr}
+use Rattle.plan_image.specs.declared.body.Instr.{Instr}
 use Rattle.plan_image.specs.Bodies.{body_of}
 use Rattle.plan_compile.specs.BodyKeys.{Body, body_at, key_of, same_body}
 use Rattle.plan_compile.specs.Numbering.{has, number, with_item}

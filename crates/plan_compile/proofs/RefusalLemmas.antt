@@ -6,7 +6,7 @@ use Rattle.std.proofs.lemmas.Bool.{ltb-true}
 use Rattle.plan_scope.specs.declared.manifest.Manifest.{Manifest}
 use Rattle.plan_graph.specs.declared.graph_data.Graph.{Graph}
 use Rattle.plan_graph.specs.Files.{paths_in}
-use Rattle.plan_image.specs.declared.instr.Instr.{Instr}
+use Rattle.plan_image.specs.declared.body.Instr.{Instr}
 use Rattle.plan_image.specs.declared.fault.ImageFault.{ImageFault}
 use Rattle.plan_image.specs.declared.image.Parts.{Parts}
 use Rattle.plan_image.specs.Bodies.{body_of}

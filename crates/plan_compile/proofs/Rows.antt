@@ -1,8 +1,8 @@
 -- The rule and the code, computed on worked examples.
 use Rattle.std.proofs.Common.{◌≡◌, ℕ, zero, suc, Bool, true, false, List, [], ◌∷◌, Option, Some, None, refl, codes, subst, arith}
 use Rattle.std.specs.Prelude.{Ok, ◌||◌, ◌==◌, map, slice_get}
-use Rattle.plan_image.specs.declared.instr.Kind.{Kind}
-use Rattle.plan_image.specs.declared.instr.Kind.TheVariants as kind
+use Rattle.plan_image.specs.declared.body.Kind.{Kind}
+use Rattle.plan_image.specs.declared.body.Kind.TheVariants as kind
 use Rattle.plan_image.specs.declared.image.Sort.TheVariants as sort
 use Rattle.plan_image.specs.declared.image.Slot.{Slot}
 use Rattle.plan_image.specs.declared.image.EdgeCode.TheVariants as form
@@ -15,8 +15,8 @@ use Rattle.plan_compile.specs.Images.{image_of}
 use Rattle.plan_image.specs.Code.{code}
 use Rattle.plan_verify.specs.Shape.{table_refusal}
 use Rattle.plan_verify.specs.WellShaped.{IsShapedEdge}
-use Rattle.plan_image.specs.declared.instr.Instr.{Instr}
-use Rattle.plan_image.specs.declared.instr.Instr.TheVariants as op
+use Rattle.plan_image.specs.declared.body.Instr.{Instr}
+use Rattle.plan_image.specs.declared.body.Instr.TheVariants as op
 use Rattle.std.specs.List.{list_any}
 use Rattle.plan_verify.specs.declared.value.Cause.TheVariants as cause
 use Rattle.plan_verify.specs.declared.value.Value.{Value}

@@ -3,7 +3,7 @@ use Rattle.std.proofs.Common.{◌≡◌, ℕ, zero, suc, ◌+◌, Bool, true, fa
 use Rattle.std.specs.Prelude.{◌||◌, ◌&&◌, ◌==◌, slice_get, if◌then◌else◌}
 use Rattle.std.specs.List.{list_all, list_any}
 use Rattle.std.proofs.lemmas.Bool.{eqb-true}
-use Rattle.plan_image.specs.declared.instr.Kind.{Kind}
+use Rattle.plan_image.specs.declared.body.Kind.{Kind}
 use Rattle.plan_image.specs.declared.image.Slot.{Slot}
 use Rattle.plan_verify.specs.Tables.{own_from}
 use Rattle.plan_compile.specs.Builds.{Build}

@@ -9,7 +9,7 @@ use Rattle.plan_scope.specs.declared.manifest.Manifest.{Manifest}
 use Rattle.plan_graph.specs.declared.graph_data.Graph.{Graph}
 use Rattle.plan_graph.specs.Graph.{IsGraph}
 use Rattle.plan_graph.specs.Laws.{DefaultsAscend, WaitsAscend}
-use Rattle.plan_image.specs.declared.instr.Instr.{Instr}
+use Rattle.plan_image.specs.declared.body.Instr.{Instr}
 use Rattle.plan_image.specs.declared.image.Edge.{Edge}
 use Rattle.plan_image.specs.Bodies.{body_of, IsSplit, opens}
 use Rattle.plan_image.specs.Code.{HasBody}

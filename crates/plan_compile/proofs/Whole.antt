@@ -3,8 +3,8 @@ use Rattle.std.proofs.Common.{◌≡◌, ℕ, suc, ◌+◌, ◌<◌, ◌≤◌, 
 use Rattle.std.specs.Prelude.{◌||◌, ◌&&◌, not, nat_lt, if◌then◌else◌, slice_get, ◌==◌}
 use Rattle.std.specs.List.{list_all}
 use Rattle.std.proofs.lemmas.Bool.{le-ltb, ltb-false}
-use Rattle.plan_image.specs.declared.instr.Instr.{Instr}
-use Rattle.plan_image.specs.declared.instr.Instr.TheVariants as op
+use Rattle.plan_image.specs.declared.body.Instr.{Instr}
+use Rattle.plan_image.specs.declared.body.Instr.TheVariants as op
 use Rattle.plan_image.specs.declared.image.Parts.{Parts}
 use Rattle.plan_image.specs.Code.{code}
 use Rattle.plan_verify.specs.declared.value.Value.{Value}

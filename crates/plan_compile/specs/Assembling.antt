@@ -7,7 +7,7 @@ use Rattle.plan_compile.specs.declared.layout.EdgeLayout.{EdgeLayout}
 use Rattle.plan_compile.specs.declared.layout.EdgeLayout.TheVariants as layout
 use Rattle.plan_compile.specs.declared.slot_pattern.SlotPattern.{SlotPattern}
 use Rattle.plan_compile.specs.declared.slot_pattern.SlotPattern.TheVariants.{Gathers, Alone}
-use Rattle.plan_image.specs.declared.instr.Instr.{Instr}
+use Rattle.plan_image.specs.declared.body.Instr.{Instr}
 use Rattle.plan_compile.specs.Builds.{Build}
 use Rattle.plan_compile.specs.Emit.{code_of}
 use Rattle.plan_image.specs.declared.image.EdgeCode.{EdgeCode}

@@ -1,12 +1,11 @@
 -- Equality of bodies, instruction by instruction, each as one number of its sort and its operand. A code is
--- given by the key of its body and the operands that are
--- left open.
+-- given by the key of its body and the operands that are left open.
 use Rattle.std.specs.Prelude.{◌≡◌, ◌<◌, ◌^◌, ◌+◌, ◌-◌, ◌*◌, ◌/◌, ◌%◌, nat_lt, ℕ, Bool, List, [], ◌∷◌, bytes_eq, All, if◌then◌else◌}
 use Rattle.plan_image.specs.Bodies.{body_of, leave_open, operands_of, put, with_operands}
 use Rattle.plan_image.specs.Opcodes.{instr_by, opcode, operand_or_zero}
-use Rattle.plan_image.specs.declared.instr.Instr.{Instr}
-use Rattle.plan_image.specs.declared.instr.BodyInstr.{BodyInstr}
-use Rattle.plan_image.specs.declared.instr.BodyInstr.TheVariants as member
+use Rattle.plan_image.specs.declared.body.Instr.{Instr}
+use Rattle.plan_image.specs.declared.body.BodyInstr.{BodyInstr}
+use Rattle.plan_image.specs.declared.body.BodyInstr.TheVariants as member
 
 abbrev pub Body : Type 0
 Body = List BodyInstr

@@ -1,8 +1,8 @@
 -- The code of an edge, from one fragment for each part of the rule. A fragment takes the code after it as its
 -- last argument if a jump leads past it.
 use Rattle.std.specs.Prelude.{ℕ, ◌+◌, Bool, true, false, not, ◌||◌, List, [], ◌∷◌, ◌++◌, length, Option, Some, None, Result, Ok, Err, nat_lt, if◌then◌else◌}
-use Rattle.plan_image.specs.declared.instr.Instr.{Instr}
-use Rattle.plan_image.specs.declared.instr.Instr.TheVariants as op
+use Rattle.plan_image.specs.declared.body.Instr.{Instr}
+use Rattle.plan_image.specs.declared.body.Instr.TheVariants as op
 use Rattle.plan_image.specs.declared.maxima.TheConstants.{MAX_BODY}
 use Rattle.plan_compile.specs.declared.fault.CompileFault.{CompileFault}
 use Rattle.plan_compile.specs.declared.fault.CompileFault.TheVariants.{Limit}

@@ -2,7 +2,7 @@
 use Rattle.std.specs.Prelude.{ℕ, zero, suc, ◌+◌, Bool, true, false, List, [], ◌∷◌, map, Some}
 use Rattle.plan_scope.specs.declared.manifest.Manifest.{Manifest}
 use Rattle.plan_graph.specs.declared.graph_data.Graph.{Graph}
-use Rattle.plan_image.specs.declared.instr.Instr.{Instr}
+use Rattle.plan_image.specs.declared.body.Instr.{Instr}
 use Rattle.plan_image.specs.declared.image.Sort.{Sort}
 use Rattle.plan_image.specs.declared.image.Sort.TheVariants.{Command, Phony}
 use Rattle.plan_image.specs.declared.image.EdgeCode.{EdgeCode}

@@ -2,7 +2,7 @@
 use Rattle.std.specs.Prelude.{◌≡◌, ℕ, zero, Bool, List, Option, Some, None, bytes_eq}
 use Rattle.std.specs.HashMap.{HashMap, get}
 use Rattle.plan_scope.specs.declared.manifest.Pool.{Pool as ManifestPool}
-use Rattle.plan_graph.specs.declared.key.Key.{Key}
+use Rattle.plan_graph.specs.declared.files.Key.{Key}
 use Rattle.plan_compile.specs.Names.{depth_of}
 
 abbrev pub same_key : Key → Key → Bool

@@ -5,7 +5,7 @@ use Rattle.plan_scope.specs.declared.manifest.Manifest.{Manifest}
 use Rattle.plan_graph.specs.declared.graph_data.Graph.{Graph}
 use Rattle.plan_graph.specs.Graph.{IsGraph}
 use Rattle.plan_image.specs.declared.maxima.TheConstants.{MAX_BODY, MAX_FILES, MAX_SLOTS}
-use Rattle.plan_image.specs.declared.instr.Instr.{Instr}
+use Rattle.plan_image.specs.declared.body.Instr.{Instr}
 use Rattle.plan_image.specs.Spelling.{HasSpelling, IsWithinLimits}
 use Rattle.plan_compile.specs.declared.baseline.OutOfDateRule.{OutOfDateRule}
 use Rattle.plan_compile.specs.declared.fault.CompileFault.{CompileFault}

@@ -2,7 +2,7 @@
 
 ghost use Rattle.std.specs.Prelude.{◌≡◌, ◌++◌, ◌∷◌, [], All, IfOk, OnOk};
 ghost use Rattle.plan_image.specs.Bodies.{leave_open, open_operand, with_operands};
-ghost use Rattle.plan_image.specs.declared.instr.BodyInstr.TheVariants as member;
+ghost use Rattle.plan_image.specs.declared.body.BodyInstr.TheVariants as member;
 ghost use Rattle.plan_compile.specs.BodyKeys.{body_at, IsSmall, member_number};
 
 use crate::opcodes::{fixed_number, member_at, open_number};
@@ -111,7 +111,7 @@ pub(crate) struct Code {
 
 impl Model for Code {
     ghost use Rattle.std.specs.Prelude.{List};
-    ghost use Rattle.plan_image.specs.declared.instr.Instr.{Instr};
+    ghost use Rattle.plan_image.specs.declared.body.Instr.{Instr};
     ghost use Rattle.plan_compile.specs.BodyKeys.{AreOf, code_at};
 
     ghost Value = { List Instr };

@@ -3,7 +3,7 @@
 ghost use Rattle.std.specs.Prelude.{◌≡◌, ◌≤◌, ◌^◌, true, false, ◌++◌, ◌+◌, ◌∷◌, [], length, nat_lt, not, OnOk};
 ghost use Rattle.plan_image.specs.declared.maxima.TheConstants.{MAX_BODY};
 ghost use Rattle.plan_compile.specs.Emit.{after_code, rerun_flag_code, clean_code, clean_len, command_code, compare_code, compares_basis, deps_code, dirty_code, dirty_place, front, holders, age_test_code, same_command_code, known_place, oldest_code, other_code, pass_code, ready_code, ready_len, from_entry_code, run_code, same_code, same_place, stat_code, under_code, before_sweep_code};
-ghost use Rattle.plan_image.specs.declared.instr.Instr.TheVariants as op;
+ghost use Rattle.plan_image.specs.declared.body.Instr.TheVariants as op;
 
 use crate::baseline::Baseline;
 use crate::code::Code;

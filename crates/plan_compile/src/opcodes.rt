@@ -1,7 +1,7 @@
 //! Encodes an instruction of a body as one number, and decodes it.
 
 ghost use Rattle.std.specs.Prelude.{◌≡◌, ◌<◌, ◌+◌, ◌*◌};
-ghost use Rattle.plan_image.specs.declared.instr.BodyInstr.TheVariants as member;
+ghost use Rattle.plan_image.specs.declared.body.BodyInstr.TheVariants as member;
 ghost use Rattle.plan_compile.specs.BodyKeys;
 ghost use Rattle.plan_compile.specs.BodyKeys.{IsSmall, member_number};
 

@@ -5,8 +5,8 @@ use Rattle.std.proofs.lemmas.Bool.{cases_lt}
 use Rattle.std.proofs.lemmas.List.{get_or-map, get_or_default, get_or_past}
 use Rattle.std.proofs.lemmas.List.Elements.{All-contains}
 use Rattle.std.proofs.lemmas.Option.{slice_get-get_or, slice_get_within}
-use Rattle.plan_graph.specs.declared.mark.Mark.{Mark}
-use Rattle.plan_graph.specs.declared.mark.Mark.TheVariants.{Done, New, Open}
+use Rattle.plan_graph.specs.declared.walk.Mark.{Mark}
+use Rattle.plan_graph.specs.declared.walk.Mark.TheVariants.{Done, New, Open}
 use Rattle.plan_graph.specs.Cycles.{AreRanks, Chain, IsCycle, WaitsFor, rank_over}
 use Rattle.plan_graph.specs.Walking.{AllDone, InRange, IsWalk, left}
 use Rattle.plan_graph.proofs.MemberLemmas.{In, contained, in_list, some_is}

@@ -13,8 +13,8 @@ use Rattle.std.proofs.lemmas.List.Folds.{sum_by-replicate}
 use Rattle.std.proofs.lemmas.List.{get_or_append_left, get_or-append-add, append_assoc, append-nil, ext_get_or, get_or-drop, get_or-map, get_or-replicate, get_or_default, get_or_past, length-drop, length-map, length-replicate, take-append-drop}
 use Rattle.std.proofs.lemmas.List.Elements.{All-contains, Contains-append_left, Contains-append_right, Contains-get_or, Contains-push_cases}
 use Rattle.std.proofs.lemmas.List.Sums.{sum_by-set}
-use Rattle.plan_graph.specs.declared.mark.Mark.{Mark}
-use Rattle.plan_graph.specs.declared.mark.Mark.TheVariants.{New, Open, Done}
+use Rattle.plan_graph.specs.declared.walk.Mark.{Mark}
+use Rattle.plan_graph.specs.declared.walk.Mark.TheVariants.{New, Open, Done}
 use Rattle.plan_graph.specs.Cycles.{WaitsFor, Chain, IsCycle, IsLeastFirst, IsSimple, rank_over}
 use Rattle.plan_graph.specs.Walking.{AllDone, DoneTo, IsWalk, KeepsMarks, is_pending, left, left_of, pending}
 use Rattle.plan_graph.proofs.MemberLemmas.{In, append_left, append_right, contained, in_append, in_list}

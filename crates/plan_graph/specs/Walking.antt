@@ -1,7 +1,7 @@
 -- The progress of a walk along waits, and its invariant.
 use Rattle.std.specs.Prelude.{◌≡◌, ◌≢◌, ◌+◌, ◌<◌, ◌≤◌, ◌++◌, ℕ, List, [], ◌∷◌, All, Contains, None, Option, Some, get_or, length, replicate, slice_get, slice_index, sum_by}
-use Rattle.plan_graph.specs.declared.mark.Mark.{Mark}
-use Rattle.plan_graph.specs.declared.mark.Mark.TheVariants.{Done, New, Open}
+use Rattle.plan_graph.specs.declared.walk.Mark.{Mark}
+use Rattle.plan_graph.specs.declared.walk.Mark.TheVariants.{Done, New, Open}
 use Rattle.plan_graph.specs.declared.fault.GraphFault.{GraphFault}
 use Rattle.plan_graph.specs.declared.fault.GraphFault.TheVariants.{Cycle, Memory, TooManyEdges, TwoProducers, UnknownDefault}
 use Rattle.plan_graph.specs.Graph.{max_edges}

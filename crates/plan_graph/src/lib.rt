@@ -8,17 +8,13 @@ mod edge_reader;
 mod fault;
 mod files;
 mod graph_data;
-mod key;
 mod laws;
-mod mark;
-mod waits;
 mod walk;
 
 pub use build_graph::graph;
 pub use fault::GraphFault;
-pub use files::Files;
+pub use files::{Files, Key};
 pub use graph_data::{Graph, MAX_EDGES};
-pub use key::Key;
 pub use laws::{
     defaults_ascend, files_complete, files_distinct, producers_numbered, producers_waited,
     ranked_unless_cyclic, ranks_rise, waits_ascend,

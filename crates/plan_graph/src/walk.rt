@@ -1,14 +1,13 @@
 //! A walk along waits, which computes the rank of each edge or finds a cycle.
 
-ghost use Rattle.std.specs.Prelude.{◌≡◌, ◌≢◌, ◌<◌, ◌≤◌, ◌+◌, ◌++◌, ◌∷◌, [], ℕ, List, All, IfErr, IfOk, OnOk, Some, get_or, length, slice_get, slice_index, ◌^◌};
+ghost use Rattle.std.specs.Prelude.{◌≡◌, ◌≢◌, ◌<◌, ◌≤◌, ◌+◌, ◌++◌, ◌∷◌, [], ℕ, List, All, IfErr, IfOk, OnOk, Some, get_or, length, slice_get, slice_index, ◌^◌, IsFalse, IsTrue};
 ghost use Rattle.plan_graph.specs.Graph.{max_edges};
 ghost use Rattle.plan_graph.specs.Cycles.{AreRanks, Chain, rank_over};
 ghost use Rattle.plan_graph.specs.Walking.{AllDone, DoneTo, GoesOn, HasMet, InRange, IsLast, IsNext, IsUntrodden, TellsCycle};
-ghost use Rattle.plan_graph.specs.declared.mark.Mark.TheVariants as mark;
+ghost use Rattle.plan_graph.specs.declared.walk.Mark.TheVariants as mark;
 
 use crate::cycle::cycle_from;
 use crate::fault::GraphFault;
-use crate::mark::{Mark, is_done, is_new};
 use plan_text::{Items, RowList};
 use std::alloc::{AllocError, Global};
 use std::marker::Model;
@@ -223,4 +222,39 @@ pub fn ranks(alloc: Global, waits: &RowList<u32>) -> Result<Items<u32>, GraphFau
         walk.visit_unless_met(edge)?;
     }
     Ok(walk.into_ranks())
+}
+
+/// The progress of a walk with an edge.
+#[derive(Clone, Copy, Drop)]
+pub enum Mark {
+    /// The walk has not met it.
+    New,
+    /// The walk has met it, and not yet finished its waits.
+    Open,
+    /// It has its rank.
+    Done,
+}
+
+/// Returns whether an edge is done.
+pub fn is_done(mark: Mark) -> bool
+    ensures yes { IsTrue result → mark ≡ Mark.Done }
+    ensures no { IsFalse result → mark ≢ Mark.Done }
+{
+    match mark {
+        Mark::Done => true,
+        Mark::New => false,
+        Mark::Open => false,
+    }
+}
+
+/// Returns whether the walk has not met an edge.
+pub fn is_new(mark: Mark) -> bool
+    ensures yes { IsTrue result → mark ≡ Mark.New }
+    ensures no { IsFalse result → mark ≢ Mark.New }
+{
+    match mark {
+        Mark::New => true,
+        Mark::Open => false,
+        Mark::Done => false,
+    }
 }

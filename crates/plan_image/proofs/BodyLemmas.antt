@@ -6,10 +6,10 @@ use Rattle.plan_image.specs.Columns.{code_by, instr_with, instrs_by}
 use Rattle.plan_image.specs.Spelling.{most_code}
 use Rattle.plan_image.proofs.ColumnLemmas.{length_by}
 use Rattle.std.proofs.lemmas.List.{get_or-drop}
-use Rattle.plan_image.specs.declared.instr.Instr.{Instr}
-use Rattle.plan_image.specs.declared.instr.Instr.TheVariants as op
-use Rattle.plan_image.specs.declared.instr.BodyInstr.{BodyInstr}
-use Rattle.plan_image.specs.declared.instr.BodyInstr.TheVariants as member
+use Rattle.plan_image.specs.declared.body.Instr.{Instr}
+use Rattle.plan_image.specs.declared.body.Instr.TheVariants as op
+use Rattle.plan_image.specs.declared.body.BodyInstr.{BodyInstr}
+use Rattle.plan_image.specs.declared.body.BodyInstr.TheVariants as member
 use Rattle.plan_image.specs.Spelling.{BodiesHaveSpelling, BodyInstrFits, InstrFits}
 use Rattle.plan_image.specs.Bodies.{opens, put, with_operands, ranks_from, leave_open, open_operand, body_of, operands_of, IsSplit, instr_with_rank}
 

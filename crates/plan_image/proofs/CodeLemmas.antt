@@ -4,19 +4,19 @@ use Rattle.std.specs.Prelude.{IfSome}
 use Rattle.std.specs.Int.{w32}
 use Rattle.std.specs.List.{flat_map, AllByRecursion}
 use Rattle.std.proofs.lemmas.Bool.{ltb-false, le-ltb, eqb-true}
-use Rattle.plan_image.specs.declared.instr.Kind.{Kind}
-use Rattle.plan_image.specs.declared.instr.Kind.TheVariants as kind
-use Rattle.plan_image.specs.declared.instr.Instr.{Instr}
-use Rattle.plan_image.specs.declared.instr.Instr.TheVariants as op
+use Rattle.plan_image.specs.declared.body.Kind.{Kind}
+use Rattle.plan_image.specs.declared.body.Kind.TheVariants as kind
+use Rattle.plan_image.specs.declared.body.Instr.{Instr}
+use Rattle.plan_image.specs.declared.body.Instr.TheVariants as op
 use Rattle.plan_image.specs.declared.image.Sort.{Sort}
 use Rattle.plan_image.specs.declared.image.Sort.TheVariants as sort
 use Rattle.plan_image.specs.Opcodes.{flag_byte}
 use Rattle.plan_image.specs.Spelling.{counted, number, IsWord, kind_byte, sort_byte, instr, operand, InstrFits, opening_byte, body_instr, BodyInstrFits, BodyFits, body, BodiesFit, body_instructions, bodies, version_of}
 use Rattle.plan_image.specs.Reading.{◌>>=◌, tag, items_at, byte_at, kind_at, sort_at, bare_of, numbered_of, operand_at, flagged_at, instr_at, opening_by, open_at, body_instr_at, body_at, body_table_at, bodies_at, refuse}
-use Rattle.plan_image.specs.declared.instr.Opening.{Opening}
-use Rattle.plan_image.specs.declared.instr.Opening.TheVariants as opening
-use Rattle.plan_image.specs.declared.instr.BodyInstr.{BodyInstr}
-use Rattle.plan_image.specs.declared.instr.BodyInstr.TheVariants as member
+use Rattle.plan_image.specs.declared.body.Opening.{Opening}
+use Rattle.plan_image.specs.declared.body.Opening.TheVariants as opening
+use Rattle.plan_image.specs.declared.body.BodyInstr.{BodyInstr}
+use Rattle.plan_image.specs.declared.body.BodyInstr.TheVariants as member
 use Rattle.plan_image.specs.declared.image.Version.{Version}
 use Rattle.plan_image.specs.declared.image.Version.TheVariants as version
 use Rattle.plan_image.specs.declared.fault.Cause.TheVariants as cause

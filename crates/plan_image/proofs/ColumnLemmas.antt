@@ -3,7 +3,7 @@ use Rattle.std.proofs.Common.{◌≡◌, ℕ, zero, suc, ◌+◌, ◌<◌, ◌�
 use Rattle.std.specs.Prelude.{slice_get, option_map, is_some}
 use Rattle.std.proofs.lemmas.List.{get_or-take, get_or_at, get_or_append_left, length-take-le}
 use Rattle.plan_image.specs.declared.image.Edge.{Edge}
-use Rattle.plan_image.specs.declared.instr.Instr.{Instr}
+use Rattle.plan_image.specs.declared.body.Instr.{Instr}
 use Rattle.plan_image.specs.declared.edge_ref.Head.{Head}
 use Rattle.plan_image.specs.Opcodes.{instr_by}
 use Rattle.plan_image.specs.Columns.{by_place, code_by, instr_with, instrs_by, edge_with, shared_body, shared_operands, AreSameBelow}

@@ -5,7 +5,7 @@ use Rattle.std.specs.Int.{w32}
 use Rattle.std.specs.List.{flat_map, AllByRecursion}
 use Rattle.std.proofs.lemmas.Bool.{ltb-false, le-ltb}
 use Rattle.plan_image.specs.declared.fault.Cause.TheVariants as cause
-use Rattle.plan_image.specs.declared.instr.BodyInstr.{BodyInstr}
+use Rattle.plan_image.specs.declared.body.BodyInstr.{BodyInstr}
 use Rattle.plan_image.specs.declared.image.Edge.{Edge}
 use Rattle.plan_image.specs.declared.image.EdgeCode.{EdgeCode}
 use Rattle.plan_image.specs.declared.image.EdgeCode.TheVariants as code_form

@@ -1,13 +1,13 @@
 -- Worked images.
 use Rattle.std.proofs.Common.{◌≡◌, ℕ, List, [], ◌∷◌, ◌++◌, take, true, Some, None, Ok, Err, refl}
 use Rattle.plan_image.specs.declared.fault.ImageFault.TheVariants as fault
-use Rattle.plan_image.specs.declared.instr.Instr.TheVariants as op
+use Rattle.plan_image.specs.declared.body.Instr.TheVariants as op
 use Rattle.plan_image.specs.declared.image.Sort.TheVariants as sort
 use Rattle.plan_image.specs.declared.image.EdgeCode.TheVariants as code_form
-use Rattle.plan_image.specs.declared.instr.BodyInstr.{BodyInstr}
-use Rattle.plan_image.specs.declared.instr.BodyInstr.TheVariants as member
-use Rattle.plan_image.specs.declared.instr.Opening.TheVariants as opening
-use Rattle.plan_image.specs.declared.instr.Instr.{Instr}
+use Rattle.plan_image.specs.declared.body.BodyInstr.{BodyInstr}
+use Rattle.plan_image.specs.declared.body.BodyInstr.TheVariants as member
+use Rattle.plan_image.specs.declared.body.Opening.TheVariants as opening
+use Rattle.plan_image.specs.declared.body.Instr.{Instr}
 use Rattle.plan_image.specs.Bodies.{with_operands, body_of, operands_of}
 use Rattle.plan_image.specs.Code.{code}
 use Rattle.plan_image.specs.Columns.{by_place, edge_with}

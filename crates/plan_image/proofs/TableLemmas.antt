@@ -21,7 +21,7 @@ use Rattle.plan_image.proofs.CodeLemmas.{byte_law, kind_law, beside_is, bodies_l
 use Rattle.plan_image.proofs.EdgeLemmas.{EdgesFit, edges_law}
 use Rattle.plan_image.specs.declared.image.Version.{Version}
 use Rattle.plan_image.specs.declared.image.Version.TheVariants as version
-use Rattle.plan_image.specs.declared.instr.BodyInstr.{BodyInstr}
+use Rattle.plan_image.specs.declared.body.BodyInstr.{BodyInstr}
 
 -- ---- fields in a row
 

@@ -1,11 +1,11 @@
 -- Bodies that edges share, and the operands that an edge fills in.
 use Rattle.std.specs.Prelude.{◌≡◌, ℕ, suc, ◌+◌, List, [], ◌∷◌, ◌++◌, length, get_or, drop, Option, Some, None}
-use Rattle.plan_image.specs.declared.instr.Instr.{Instr}
-use Rattle.plan_image.specs.declared.instr.Instr.TheVariants as op
-use Rattle.plan_image.specs.declared.instr.Opening.{Opening}
-use Rattle.plan_image.specs.declared.instr.Opening.TheVariants as opening
-use Rattle.plan_image.specs.declared.instr.BodyInstr.{BodyInstr}
-use Rattle.plan_image.specs.declared.instr.BodyInstr.TheVariants as member
+use Rattle.plan_image.specs.declared.body.Instr.{Instr}
+use Rattle.plan_image.specs.declared.body.Instr.TheVariants as op
+use Rattle.plan_image.specs.declared.body.Opening.{Opening}
+use Rattle.plan_image.specs.declared.body.Opening.TheVariants as opening
+use Rattle.plan_image.specs.declared.body.BodyInstr.{BodyInstr}
+use Rattle.plan_image.specs.declared.body.BodyInstr.TheVariants as member
 
 -- the number of open instructions
 abbrev pub opens : List BodyInstr → ℕ

@@ -1,7 +1,7 @@
 -- Edges and instructions in columns: the items with the same index in each column form one edge or one
 -- instruction.
 use Rattle.std.specs.Prelude.{◌≡◌, ◌<◌, ℕ, ◌+◌, List, [], ◌∷◌, Option, Some, None, get_or, option_map, slice_get}
-use Rattle.plan_image.specs.declared.instr.Instr.{Instr}
+use Rattle.plan_image.specs.declared.body.Instr.{Instr}
 use Rattle.plan_image.specs.Opcodes.{instr_by}
 use Rattle.plan_image.specs.declared.image.Edge.{Edge}
 use Rattle.plan_image.specs.declared.image.EdgeCode.{EdgeCode}

@@ -3,21 +3,21 @@ use Rattle.std.specs.Prelude.{ℕ, ◌+◌, ◌/◌, ◌%◌, false, List, [], �
 use Rattle.std.specs.List.{concat, join_with_byte}
 use Rattle.std.specs.Fmt.{decimal, digit_glyph}
 use Rattle.std.specs.Prelude.{codes}
-use Rattle.plan_image.specs.declared.instr.Kind.{Kind}
-use Rattle.plan_image.specs.declared.instr.Kind.TheVariants as kind
-use Rattle.plan_image.specs.declared.instr.Instr.{Instr}
-use Rattle.plan_image.specs.declared.instr.Instr.TheVariants as op
+use Rattle.plan_image.specs.declared.body.Kind.{Kind}
+use Rattle.plan_image.specs.declared.body.Kind.TheVariants as kind
+use Rattle.plan_image.specs.declared.body.Instr.{Instr}
+use Rattle.plan_image.specs.declared.body.Instr.TheVariants as op
 use Rattle.plan_image.specs.declared.image.Sort.{Sort}
 use Rattle.plan_image.specs.declared.image.Sort.TheVariants as sort
 use Rattle.plan_image.specs.declared.image.Edge.{Edge}
 use Rattle.plan_image.specs.declared.image.Pool.{Pool}
 use Rattle.plan_image.specs.declared.image.Slot.{Slot}
-use Rattle.plan_image.specs.declared.instr.Opening.{Opening}
+use Rattle.plan_image.specs.declared.body.Opening.{Opening}
 use Rattle.plan_image.specs.declared.image.Parts.{Parts}
 use Rattle.plan_image.specs.declared.image.EdgeCode.{EdgeCode}
 use Rattle.plan_image.specs.declared.image.EdgeCode.TheVariants as code_form
-use Rattle.plan_image.specs.declared.instr.BodyInstr.{BodyInstr}
-use Rattle.plan_image.specs.declared.instr.BodyInstr.TheVariants as member
+use Rattle.plan_image.specs.declared.body.BodyInstr.{BodyInstr}
+use Rattle.plan_image.specs.declared.body.BodyInstr.TheVariants as member
 use Rattle.plan_image.specs.Bodies.{put}
 use Rattle.plan_image.specs.Opcodes.{flag_byte}
 use Rattle.plan_image.specs.Spelling.{operand}

@@ -1,7 +1,7 @@
 -- The opcodes of instructions. The spelling of an image, the columns and the keys of bodies use this one table.
 use Rattle.std.specs.Prelude.{ℕ, Bool, true, false, ◌==◌, if◌then◌else◌}
-use Rattle.plan_image.specs.declared.instr.Instr.{Instr}
-use Rattle.plan_image.specs.declared.instr.Instr.TheVariants as op
+use Rattle.plan_image.specs.declared.body.Instr.{Instr}
+use Rattle.plan_image.specs.declared.body.Instr.TheVariants as op
 
 abbrev pub opcode : Instr → ℕ
 opcode op.End = 0

@@ -9,10 +9,10 @@ use Rattle.plan_image.specs.declared.reading.stop.ReadFault.{ReadFault}
 use Rattle.plan_image.specs.declared.reading.stop.ReadFault.TheVariants as errors
 use Rattle.plan_image.specs.declared.fault.ImageFault.{ImageFault}
 use Rattle.plan_image.specs.declared.fault.ImageFault.TheVariants as fault
-use Rattle.plan_image.specs.declared.instr.Kind.{Kind}
-use Rattle.plan_image.specs.declared.instr.Kind.TheVariants as kind
-use Rattle.plan_image.specs.declared.instr.Instr.{Instr}
-use Rattle.plan_image.specs.declared.instr.Instr.TheVariants as op
+use Rattle.plan_image.specs.declared.body.Kind.{Kind}
+use Rattle.plan_image.specs.declared.body.Kind.TheVariants as kind
+use Rattle.plan_image.specs.declared.body.Instr.{Instr}
+use Rattle.plan_image.specs.declared.body.Instr.TheVariants as op
 use Rattle.plan_image.specs.declared.image.Sort.{Sort}
 use Rattle.plan_image.specs.declared.image.Sort.TheVariants as sort
 use Rattle.plan_image.specs.declared.image.Pool.{Pool}
@@ -23,10 +23,10 @@ use Rattle.plan_image.specs.declared.image.EdgeCode.{EdgeCode}
 use Rattle.plan_image.specs.declared.image.EdgeCode.TheVariants as code_form
 use Rattle.plan_image.specs.declared.image.Version.{Version}
 use Rattle.plan_image.specs.declared.image.Version.TheVariants as version
-use Rattle.plan_image.specs.declared.instr.Opening.{Opening}
-use Rattle.plan_image.specs.declared.instr.Opening.TheVariants as opening
-use Rattle.plan_image.specs.declared.instr.BodyInstr.{BodyInstr}
-use Rattle.plan_image.specs.declared.instr.BodyInstr.TheVariants as member
+use Rattle.plan_image.specs.declared.body.Opening.{Opening}
+use Rattle.plan_image.specs.declared.body.Opening.TheVariants as opening
+use Rattle.plan_image.specs.declared.body.BodyInstr.{BodyInstr}
+use Rattle.plan_image.specs.declared.body.BodyInstr.TheVariants as member
 use Rattle.plan_image.specs.declared.maxima.TheConstants.{MAX_BODIES, MAX_BODY, MAX_BODY_INSTRS, MAX_DEPTH, MAX_EDGES, MAX_FILES, MAX_IMAGE, MAX_OWN_INSTRS, MAX_PATH, MAX_POOLS, MAX_SHARED_INSTRS, MAX_SLOTS, MAX_TEXT, MAX_TEXTS}
 use Rattle.plan_image.specs.Bodies.{opens}
 use Rattle.plan_image.specs.Faults.{fault_at}

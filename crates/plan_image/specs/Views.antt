@@ -1,8 +1,8 @@
 -- The code of an edge that an image lends to its readers: a borrowed view.
 use Rattle.std.specs.Prelude.{List}
-use Rattle.plan_image.specs.declared.instr.Instr.{Instr}
-use Rattle.plan_image.specs.declared.code_view.Members.{Members}
-use Rattle.plan_image.specs.declared.code_view.Members.TheVariants as members
+use Rattle.plan_image.specs.declared.body.Instr.{Instr}
+use Rattle.plan_image.specs.declared.body.Members.{Members}
+use Rattle.plan_image.specs.declared.body.Members.TheVariants as members
 use Rattle.plan_image.specs.Bodies.{with_operands}
 use Rattle.plan_image.specs.Columns.{lent_instrs}
 

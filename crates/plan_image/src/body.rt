@@ -1,11 +1,12 @@
-//! Bodies: lists of instructions that edges share.
+//! The instructions of an edge, and bodies: lists of instructions that edges share. docs/rules/image.md lists the
+//! instructions in a table.
 
 ghost use Rattle.std.specs.Prelude.{◌≡◌, ◌+◌, ◌<◌, ◌≤◌, ◌^◌, ◌∷◌, ◌++◌, [], length, List, IfOk, OnOk, slice_get, get_or};
-ghost use Rattle.plan_image.specs.declared.instr.BodyInstr.{BodyInstr};
+ghost use Rattle.plan_image.specs.declared.body.BodyInstr.{BodyInstr};
 ghost use Rattle.plan_image.specs.Bodies.{opens, ranks_from, with_operands, IsSplit, body_of, operands_of, open_operand};
 ghost use Rattle.plan_image.specs.Spelling.{BodiesHaveSpelling};
 
-use crate::instr::{BodyInstr, Instr};
+use crate::edge_ref::InstrsRef;
 use plan_text::{Items, Memory};
 use std::alloc::{AllocError, Global};
 use std::marker::Model;
@@ -23,7 +24,7 @@ pub struct Body {
 
 impl Model for Body {
     ghost use Rattle.std.specs.Prelude.{◌≡◌, List};
-    ghost use Rattle.plan_image.specs.declared.instr.BodyInstr.{BodyInstr};
+    ghost use Rattle.plan_image.specs.declared.body.BodyInstr.{BodyInstr};
     ghost use Rattle.plan_image.specs.Bodies.{opens, ranks_from};
 
     ghost Value = { List BodyInstr };
@@ -181,3 +182,253 @@ pub fn split_law()
     ensures split { IsSplit }
     ensures spelling { BodiesHaveSpelling }
 {}
+
+/// The kind of a value on an edge's stack or in a slot. An image has the kinds as numbers from 1 to 5.
+#[derive(Clone, Copy, Debug, Default, PartialEq, Eq)]
+pub enum Kind {
+    /// A file's modification time, or 0 if the file is missing.
+    #[default]
+    Stamp,
+    /// True or false.
+    Flag,
+    /// Bytes.
+    Text,
+    /// Paths whose stamps have not been requested yet.
+    Paths,
+    /// Paths whose stamps have been requested.
+    Swept,
+}
+
+/// An instruction with its operand: the number of a file (`Stat`, `Need`), of a slot (`Load`, `Store`), of a
+/// text (`Text`), of a place (`Jump`, `JumpIf`), or a flag. Its opcodes are 0 to 28 in the order of the
+/// variants.
+#[derive(Clone, Copy, Debug, PartialEq, Eq)]
+pub enum Instr {
+    End,
+    Stat(u32),
+    Need(u32),
+    Load(u32),
+    Store(u32),
+    Older,
+    Newer,
+    Before,
+    Same,
+    IsMissing,
+    Or,
+    Not,
+    Flag(bool),
+    Zero,
+    NoPaths,
+    Text(u32),
+    Join,
+    Equal,
+    Recall,
+    Sweep,
+    Jump(u32),
+    JumpIf(u32),
+    Take,
+    Release,
+    Run,
+    Deps,
+    Keep,
+    Drop,
+    Swap,
+}
+
+impl Instr {
+    ghost use Rattle.std.specs.Prelude.{◌≡◌, ◌≤◌};
+    ghost use Rattle.plan_image.specs.Opcodes.{instr_by, opcode, operand_or_zero};
+    ghost use Rattle.plan_image.specs.Bodies;
+
+    /// Returns the instruction of an opcode with this operand. The operand of `Flag` is 1 for true. An opcode above
+    /// 28 gives `End`, and an operand that the instruction doesn't have is ignored.
+    #[inline(always)]
+    pub const fn from_opcode(opcode: u8, operand: u32) -> Instr
+        ensures { result ≡ instr_by opcode operand }
+    {
+        match opcode {
+            1 => Instr::Stat(operand),
+            2 => Instr::Need(operand),
+            3 => Instr::Load(operand),
+            4 => Instr::Store(operand),
+            5 => Instr::Older,
+            6 => Instr::Newer,
+            7 => Instr::Before,
+            8 => Instr::Same,
+            9 => Instr::IsMissing,
+            10 => Instr::Or,
+            11 => Instr::Not,
+            12 => Instr::Flag(operand == 1),
+            13 => Instr::Zero,
+            14 => Instr::NoPaths,
+            15 => Instr::Text(operand),
+            16 => Instr::Join,
+            17 => Instr::Equal,
+            18 => Instr::Recall,
+            19 => Instr::Sweep,
+            20 => Instr::Jump(operand),
+            21 => Instr::JumpIf(operand),
+            22 => Instr::Take,
+            23 => Instr::Release,
+            24 => Instr::Run,
+            25 => Instr::Deps,
+            26 => Instr::Keep,
+            27 => Instr::Drop,
+            28 => Instr::Swap,
+            _ => Instr::End,
+        }
+    }
+
+    /// Returns the opcode of the instruction and its operand: 1 for the flag true, and 0 if it has none.
+    #[inline(always)]
+    pub const fn opcode_and_operand(self) -> (u8, u32)
+        ensures opcode { result.0 ≡ opcode self }
+        ensures operand { result.1 ≡ operand_or_zero self }
+        ensures few { result.0 ≤ 28 }
+        ensures back { instr_by result.0 result.1 ≡ self }
+    {
+        match self {
+            Instr::End => (0, 0),
+            Instr::Stat(file) => (1, file),
+            Instr::Need(file) => (2, file),
+            Instr::Load(slot) => (3, slot),
+            Instr::Store(slot) => (4, slot),
+            Instr::Older => (5, 0),
+            Instr::Newer => (6, 0),
+            Instr::Before => (7, 0),
+            Instr::Same => (8, 0),
+            Instr::IsMissing => (9, 0),
+            Instr::Or => (10, 0),
+            Instr::Not => (11, 0),
+            Instr::Flag(false) => (12, 0),
+            Instr::Flag(true) => (12, 1),
+            Instr::Zero => (13, 0),
+            Instr::NoPaths => (14, 0),
+            Instr::Text(text) => (15, text),
+            Instr::Join => (16, 0),
+            Instr::Equal => (17, 0),
+            Instr::Recall => (18, 0),
+            Instr::Sweep => (19, 0),
+            Instr::Jump(place) => (20, place),
+            Instr::JumpIf(place) => (21, place),
+            Instr::Take => (22, 0),
+            Instr::Release => (23, 0),
+            Instr::Run => (24, 0),
+            Instr::Deps => (25, 0),
+            Instr::Keep => (26, 0),
+            Instr::Drop => (27, 0),
+            Instr::Swap => (28, 0),
+        }
+    }
+
+    /// Returns the instruction with its number left open, if it is of a kind that can be open.
+    #[inline(always)]
+    pub const fn leave_open(self) -> BodyInstr
+        ensures { result ≡ Bodies.leave_open self }
+    {
+        match self {
+            Instr::Stat(_number) => BodyInstr::Open(Opening::Stat),
+            Instr::Need(_number) => BodyInstr::Open(Opening::Need),
+            Instr::Load(_number) => BodyInstr::Open(Opening::Load),
+            Instr::Store(_number) => BodyInstr::Open(Opening::Store),
+            Instr::Text(_number) => BodyInstr::Open(Opening::Text),
+            fixed => BodyInstr::Fixed(fixed),
+        }
+    }
+}
+
+/// The kind of an open instruction, whose operand is stored in the edge.
+#[derive(Clone, Copy, Debug, PartialEq, Eq)]
+pub enum Opening {
+    Stat,
+    Need,
+    Load,
+    Store,
+    Text,
+}
+
+impl Opening {
+    ghost use Rattle.std.specs.Prelude.{◌≡◌};
+    ghost use Rattle.plan_image.specs.Bodies.{put};
+
+    /// Returns the open instruction with this number as its operand.
+    #[inline(always)]
+    pub const fn with_number(self, number: u32) -> Instr
+        ensures { result ≡ put self number }
+    {
+        match self {
+            Opening::Stat => Instr::Stat(number),
+            Opening::Need => Instr::Need(number),
+            Opening::Load => Instr::Load(number),
+            Opening::Store => Instr::Store(number),
+            Opening::Text => Instr::Text(number),
+        }
+    }
+}
+
+/// An instruction of a body. In an image each instruction that can be open is open: `Fixed` has none of the
+/// five kinds of `Opening`.
+#[derive(Clone, Copy, Debug, PartialEq, Eq)]
+pub enum BodyInstr {
+    Fixed(Instr),
+    Open(Opening),
+}
+
+/// The source of the instructions of a code.
+#[derive(Clone, Copy, Debug)]
+pub(crate) enum Members<'a> {
+    /// The edge's own instructions.
+    Own(InstrsRef<'a>),
+    /// A body, and an operand for each of its open instructions.
+    Shared(&'a Body, &'a [u32]),
+}
+
+/// The code of an edge, borrowed from an image that has looked it up once. It is a body with operands, or the
+/// edge's own instructions. A contract sees the list of its instructions.
+#[derive(Drop)]
+pub struct CodeView<'a> {
+    members: Members<'a>,
+}
+
+impl<'a> Model for CodeView<'a> {
+    ghost use Rattle.std.specs.Prelude.{List};
+    ghost use Rattle.plan_image.specs.declared.body.Instr.{Instr};
+    ghost use Rattle.plan_image.specs.Views.{members_code};
+
+    ghost Value = { List Instr };
+
+    ghost view = { λ v. members_code v.members };
+}
+
+impl<'a> CodeView<'a> {
+    ghost use Rattle.std.specs.Prelude.{◌≡◌, length, slice_get};
+    ghost use Rattle.plan_image.specs.Views.{members_code};
+
+    /// Creates a view of these instructions.
+    pub(crate) fn new(members: Members<'a>) -> CodeView<'a>
+        ensures { result ≡ members_code members.entry }
+    {
+        CodeView { members }
+    }
+
+    /// Returns the number of instructions.
+    pub fn len(&self) -> usize
+        ensures { result ≡ length self.now }
+    {
+        match self.members {
+            Members::Own(instrs) => instrs.len(),
+            Members::Shared(body, operands) => body.filled_len(operands),
+        }
+    }
+
+    /// Returns the instruction at a place, counted from 0. Returns None if there is no such instruction. The
+    /// time is the same for each place.
+    pub fn instr(&self, place: u32) -> Option<Instr>
+        ensures { result ≡ slice_get self.now place }
+    {
+        match self.members {
+            Members::Own(instrs) => instrs.get(place as usize),
+            Members::Shared(body, operands) => body.instr(operands, place as usize),
+        }
+    }
+}

@@ -3,8 +3,8 @@
 ghost use Rattle.std.specs.Prelude.{◌≡◌, ◌∷◌, ◌<◌, ◌+◌, Some, drop, length, slice_get};
 ghost use Rattle.plan_image.specs.Columns.{lent_instrs};
 
+use crate::body::Instr;
 use crate::image::Sort;
-use crate::instr::Instr;
 
 /// The part of an edge that is not a list. If it names a body, the edge has operands, and otherwise the edge
 /// has its own instructions.

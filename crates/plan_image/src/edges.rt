@@ -3,10 +3,9 @@
 ghost use Rattle.std.specs.Prelude.{◌≡◌, ◌≤◌, ◌<◌, ◌+◌, ◌++◌, ◌∷◌, [], OnOk, OnErr, IfOk, Some, drop, get_or, is_some, length, option_map, slice_get, true};
 ghost use Rattle.plan_image.specs.Columns.{AreSameBelow, code_at, code_by, instrs_by, lent, lent_code, shared_body, shared_operands};
 
-use crate::body::number_at;
+use crate::body::{Instr, number_at};
 use crate::edge_ref::{CodeRef, EdgeRef, Head, InstrsRef};
 use crate::image::{Edge, EdgeCode};
-use crate::instr::Instr;
 use crate::opcode::push_instr;
 use plan_text::RowList;
 use std::alloc::{AllocError, Global};

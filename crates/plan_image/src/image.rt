@@ -1,18 +1,16 @@
 //! The tables of an image.
 
 ghost use Rattle.std.specs.Prelude.{◌≡◌, ◌↔◌, [], List, Option, None, Some, IsTrue, IsOk, IfOk, IfErr, IfNone, IfSome, length, slice_get};
-ghost use Rattle.plan_image.specs.declared.instr.BodyInstr.{BodyInstr};
+ghost use Rattle.plan_image.specs.declared.body.BodyInstr.{BodyInstr};
 ghost use Rattle.plan_image.specs.Bodies.{with_operands};
 ghost use Rattle.plan_image.specs.Code.{instrs_of, body};
 ghost use Rattle.plan_image.specs.Columns.{code_at, lent_code, shared_body};
 ghost use Rattle.plan_image.specs.Spelling.{HasSpelling, IsPrefixFree};
 
-use crate::body::Body;
-use crate::code_view::{CodeView, Members};
+use crate::body::{Body, BodyInstr, CodeView, Instr, Kind, Members};
 use crate::edge_ref::{CodeRef, InstrsRef};
 use crate::edges::Edges;
 use crate::fault::ImageFault;
-use crate::instr::{BodyInstr, Instr, Kind};
 use crate::limits::{is_filled, is_in_order, is_within_limits};
 use plan_text::{Items, RowList};
 use std::marker::Model;

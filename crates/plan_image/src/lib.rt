@@ -19,12 +19,10 @@
 #![tactic(auto)]
 
 mod body;
-mod code_view;
 mod edge_ref;
 mod edges;
 mod fault;
 mod image;
-mod instr;
 mod limits;
 mod lister;
 mod makers;
@@ -34,13 +32,11 @@ mod reading;
 mod sizes;
 mod writing;
 
-pub use body::{Body, split, split_law};
-pub use code_view::CodeView;
+pub use body::{Body, BodyInstr, CodeView, Instr, Kind, Opening, split, split_law};
 pub use edge_ref::{CodeRef, EdgeRef, InstrsRef};
 pub use edges::Edges;
 pub use fault::ImageFault;
 pub use image::{Edge, EdgeCode, Image, Parts, Pool, Slot, Sort, Version, image_law};
-pub use instr::{BodyInstr, Instr, Kind, Opening};
 pub use lister::{WriteFault, listing};
 pub use makers::edge_of;
 pub use maxima::{

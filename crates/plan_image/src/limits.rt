@@ -1,18 +1,16 @@
 //! Tests whether tables have a spelling.
 
-ghost use Rattle.std.specs.Prelude.{◌≡◌, ◌<◌, ◌≤◌, ◌^◌, ◌+◌, ◌↔◌, IsTrue, length};
-ghost use Rattle.std.specs.Prelude.{Option, Some, None, IfSome, IsSome};
+ghost use Rattle.std.specs.Prelude.{◌≡◌, ◌<◌, ◌≤◌, ◌^◌, ◌+◌, ◌↔◌, IsTrue, length, Option, Some, None, IfSome, IsSome};
 ghost use Rattle.std.specs.List.{AllByRecursion};
 ghost use Rattle.plan_image.specs.Bodies.{opening_of, opens};
 ghost use Rattle.plan_image.specs.Code.{HasBody, body};
 ghost use Rattle.plan_image.specs.Columns.{lent, lent_code, lent_instrs};
 ghost use Rattle.plan_image.specs.Spelling.{IsWord, AreWords, CodeFits, IsWithinLimits, CountsFit, ItemsFit, IsInOrder, RoomAfter, spelling, IsText, IsFileName, SlotFits, EdgeFits, PoolFits, instructions, InstrFits, pool_number, AscendsFrom, body_instructions, BodiesFit, IsFilled};
 
-use crate::body::Body;
+use crate::body::{Body, BodyInstr, Instr};
 use crate::edge_ref::{CodeRef, EdgeRef, InstrsRef};
 use crate::edges::Edges;
 use crate::image::{Parts, Pool, Slot, instr_count};
-use crate::instr::{BodyInstr, Instr};
 use crate::maxima::{
     MAX_BODIES, MAX_BODY, MAX_BODY_INSTRS, MAX_DEPTH, MAX_EDGES, MAX_FILES, MAX_IMAGE,
     MAX_OWN_INSTRS, MAX_PATH, MAX_POOLS, MAX_SHARED_INSTRS, MAX_SLOTS, MAX_TEXT, MAX_TEXTS,

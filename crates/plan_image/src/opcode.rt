@@ -3,7 +3,7 @@
 ghost use Rattle.std.specs.Prelude.{◌≡◌, ◌+◌, ◌++◌, ◌∷◌, [], OnOk, length};
 ghost use Rattle.plan_image.specs.Columns;
 
-use crate::instr::Instr;
+use crate::body::Instr;
 use std::alloc::AllocError;
 
 /// Appends an instruction to the two columns.

@@ -5,11 +5,10 @@ ghost use Rattle.std.specs.List.{flat_map};
 ghost use Rattle.plan_image.specs.Columns.{lent, lent_code, lent_instrs};
 ghost use Rattle.plan_image.specs.Spelling.{counted, edge, instr, number, spelling, edge_code, RoomAfter};
 
-use crate::body::Body;
+use crate::body::{Body, BodyInstr, Instr};
 use crate::edge_ref::{CodeRef, EdgeRef, InstrsRef};
 use crate::edges::Edges;
 use crate::image::{Parts, Pool, Slot};
-use crate::instr::{BodyInstr, Instr};
 use plan_text::{Items, RowList};
 
 /// The size of an item's spelling, subtracted from the room that is left.

@@ -5,13 +5,13 @@ use Rattle.std.proofs.lemmas.List.{append-nil, append_assoc}
 use Rattle.plan_image.specs.declared.image.Parts.{Parts}
 use Rattle.plan_verify.specs.Turn.{Request}
 use Rattle.plan_machine.specs.declared.event.Event.{Event}
-use Rattle.plan_machine.specs.declared.event.mark.Mark.{Mark}
+use Rattle.plan_machine.specs.declared.event.Mark.{Mark}
 use Rattle.plan_machine.specs.Depfile.{depfile}
 use Rattle.plan_machine.specs.Limits.{Limits}
 use Rattle.plan_machine.specs.Runs.{Runs}
 use Rattle.plan_machine.specs.State.{State, has_ended}
 use Rattle.plan_status.specs.Consoles.{is_console}
-use Rattle.plan_lanes.specs.declared.owned_request.Question.{Question}
+use Rattle.plan_lanes.specs.declared.batch.Question.{Question}
 use Rattle.plan_lanes.specs.declared.board.Advance.TheVariants as advance
 use Rattle.plan_lanes.specs.declared.board.Permit.{Permit}
 use Rattle.plan_lanes.specs.declared.lanes.BatchEnd.TheVariants as taken

@@ -3,9 +3,9 @@ use Rattle.std.proofs.Common.{◌≡◌, ◌+◌, ℕ, zero, suc, Bool, true, fa
 use Rattle.std.specs.Prelude.{if◌then◌else◌}
 use Rattle.std.proofs.lemmas.List.{append-nil}
 use Rattle.plan_image.specs.declared.image.Parts.{Parts}
-use Rattle.plan_machine.specs.declared.event.mark.Mark.{Mark}
-use Rattle.plan_machine.specs.declared.event.mark.Mark.TheVariants.{Started, Skipped, Stopped, Took, Released, Asked, Moved, Answered, Ended, Failed}
-use Rattle.plan_machine.specs.declared.run.local_run.LocalRun.{LocalRun}
+use Rattle.plan_machine.specs.declared.event.Mark.{Mark}
+use Rattle.plan_machine.specs.declared.event.Mark.TheVariants.{Started, Skipped, Stopped, Took, Released, Asked, Moved, Answered, Ended, Failed}
+use Rattle.plan_machine.specs.declared.run.local_runs.LocalRun.{LocalRun}
 use Rattle.plan_machine.specs.LocalRuns.{marks_by, moves_of, local_run_marks}
 use Rattle.plan_machine.specs.Sweeping.{row_marks}
 use Rattle.plan_status.specs.Lines.{ends, line_of, lines_behind, tells_end}

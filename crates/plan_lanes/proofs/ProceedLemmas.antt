@@ -8,10 +8,10 @@ use Rattle.plan_verify.specs.Sound.{asking as awaiting}
 use Rattle.plan_verify.specs.Turn.{Local, Request, Moved, Took, Released, Turn, Goes, Sets, Asks, Ends, Fails, Wrong, turn}
 use Rattle.plan_machine.specs.declared.event.Event.{Event}
 use Rattle.plan_machine.specs.declared.event.Event.TheVariants.{Step, Reply as Hear}
-use Rattle.plan_machine.specs.declared.event.mark.Mark.{Mark}
-use Rattle.plan_machine.specs.declared.event.mark.Mark.TheVariants as mark
+use Rattle.plan_machine.specs.declared.event.Mark.{Mark}
+use Rattle.plan_machine.specs.declared.event.Mark.TheVariants as mark
 use Rattle.plan_machine.specs.declared.event.reply.Reply.{Reply}
-use Rattle.plan_machine.specs.declared.run.local_run.LocalRun.{LocalRun}
+use Rattle.plan_machine.specs.declared.run.local_runs.LocalRun.{LocalRun}
 use Rattle.plan_machine.specs.Depfile.{depfile}
 use Rattle.plan_machine.specs.Edges.{edge_of}
 use Rattle.plan_machine.specs.Limits.{Limits}

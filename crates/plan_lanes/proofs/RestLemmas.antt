@@ -4,8 +4,8 @@ use Rattle.std.specs.Prelude.{◌&&◌, ◌||◌, ◌==◌, if◌then◌else◌,
 use Rattle.std.specs.List.{list_all}
 use Rattle.std.proofs.lemmas.Option.{slice_get_within}
 use Rattle.plan_image.specs.declared.image.Parts.{Parts}
-use Rattle.plan_image.specs.declared.instr.Instr.{Instr}
-use Rattle.plan_image.specs.declared.instr.Instr.TheVariants as op
+use Rattle.plan_image.specs.declared.body.Instr.{Instr}
+use Rattle.plan_image.specs.declared.body.Instr.TheVariants as op
 use Rattle.plan_image.specs.declared.image.Slot.{Slot}
 use Rattle.plan_image.specs.Code.{code}
 use Rattle.plan_verify.specs.declared.value.Value.{Value}
@@ -16,13 +16,13 @@ use Rattle.plan_verify.specs.Turn.{Slots, Local, Request, Did, Turn, Goes, Sets,
 use Rattle.plan_machine.specs.Depfile.{depfile}
 use Rattle.plan_machine.specs.Limits.{Limits}
 use Rattle.plan_machine.specs.Places.{at_take, is_free}
-use Rattle.plan_machine.specs.declared.event.mark.Outcome.TheVariants.{Failed}
+use Rattle.plan_machine.specs.declared.event.Outcome.TheVariants.{Failed}
 use Rattle.plan_machine.specs.declared.event.Event.{Event}
 use Rattle.plan_machine.specs.declared.event.Event.TheVariants.{Step, Reply as Hear}
-use Rattle.plan_machine.specs.declared.event.mark.Mark.{Mark}
-use Rattle.plan_machine.specs.declared.event.mark.Mark.TheVariants as mark
+use Rattle.plan_machine.specs.declared.event.Mark.{Mark}
+use Rattle.plan_machine.specs.declared.event.Mark.TheVariants as mark
 use Rattle.plan_machine.specs.declared.event.reply.Reply.{Reply}
-use Rattle.plan_machine.specs.declared.run.local_run.LocalRun.{LocalRun}
+use Rattle.plan_machine.specs.declared.run.local_runs.LocalRun.{LocalRun}
 use Rattle.plan_machine.specs.Requests.{asked_at, asked_by}
 use Rattle.plan_machine.specs.Runs.{Runs}
 use Rattle.plan_machine.specs.LocalRuns.{events_by, marks_by, moves_of, local_run_events, local_run_marks, steps_of}

@@ -1,7 +1,7 @@
 -- The definitions, computed on small journals.
 use Rattle.std.proofs.Common.{◌≡◌, ◌+◌, ◌<◌, ℕ, zero, suc, true, false, List, [], ◌∷◌, Some, None, refl, arith}
 use Rattle.std.specs.Prelude.{slice_get}
-use Rattle.plan_image.specs.declared.instr.Instr.TheVariants as op
+use Rattle.plan_image.specs.declared.body.Instr.TheVariants as op
 use Rattle.plan_image.specs.declared.image.Sort.TheVariants as sort
 use Rattle.plan_image.specs.declared.image.EdgeCode.TheVariants.{Own}
 use Rattle.plan_image.specs.declared.image.Parts.{Parts}
@@ -9,11 +9,11 @@ use Rattle.plan_verify.specs.Turn.{Run, Stat, turn}
 use Rattle.plan_machine.specs.declared.event.reply.Reply.TheVariants as reply
 use Rattle.plan_machine.specs.declared.event.Event.{Event}
 use Rattle.plan_machine.specs.declared.event.Event.TheVariants.{Start, Step, Reply as Hear}
-use Rattle.plan_machine.specs.declared.event.mark.Mark.TheVariants as mark
+use Rattle.plan_machine.specs.declared.event.Mark.TheVariants as mark
 use Rattle.plan_machine.specs.Runs.{Opens}
 use Rattle.plan_machine.specs.State.{Unbegun, Active, State}
 use Rattle.plan_machine.specs.Step.{step}
-use Rattle.plan_lanes.specs.declared.owned_request.OwnedRequest.TheVariants as asked
+use Rattle.plan_lanes.specs.declared.batch.OwnedRequest.TheVariants as asked
 use Rattle.plan_lanes.specs.declared.board.Report.{Report}
 use Rattle.plan_lanes.specs.declared.fault.LaneFault.TheVariants.{NoLane}
 use Rattle.plan_lanes.specs.Faults.{number_of}

@@ -11,9 +11,9 @@ use Rattle.plan_verify.specs.Turn.{Slots, Local, begun, Did, Moved, Took, Releas
 use Rattle.plan_machine.specs.Limits.{Limits}
 use Rattle.plan_machine.specs.declared.event.Event.{Event}
 use Rattle.plan_machine.specs.declared.event.Event.TheVariants.{Start, Skip, Stop, Step, Reply as Hear}
-use Rattle.plan_machine.specs.declared.event.mark.Mark.{Mark}
-use Rattle.plan_machine.specs.declared.event.mark.Mark.TheVariants as mark
-use Rattle.plan_machine.specs.declared.event.mark.Outcome.TheVariants.{Failed, Skipped, Stopped}
+use Rattle.plan_machine.specs.declared.event.Mark.{Mark}
+use Rattle.plan_machine.specs.declared.event.Mark.TheVariants as mark
+use Rattle.plan_machine.specs.declared.event.Outcome.TheVariants.{Failed, Skipped, Stopped}
 use Rattle.plan_machine.specs.Edges.{edge_of}
 use Rattle.plan_machine.specs.Places.{at_take, is_free, is_spent}
 use Rattle.plan_machine.specs.Runs.{Opens, Reached, Runs, at_first}

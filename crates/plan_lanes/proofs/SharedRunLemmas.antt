@@ -3,10 +3,10 @@ use Rattle.std.proofs.Common.{◌≡◌, ℕ, List, ◌++◌, Option, Some, None
 use Rattle.std.specs.Prelude.{IfOk, OnErr, Result, Ok, Err}
 use Rattle.plan_image.specs.declared.image.Parts.{Parts}
 use Rattle.plan_machine.specs.declared.event.Event.{Event}
-use Rattle.plan_machine.specs.declared.event.mark.Mark.{Mark}
+use Rattle.plan_machine.specs.declared.event.Mark.{Mark}
 use Rattle.plan_machine.specs.declared.run.refused.Refused.{Refused}
-use Rattle.plan_status.specs.declared.feed.Feed.{Feed}
-use Rattle.plan_status.specs.declared.line_progress.LineProgress.{LineProgress}
+use Rattle.plan_status.specs.declared.tap.Feed.{Feed}
+use Rattle.plan_status.specs.declared.format.LineProgress.{LineProgress}
 use Rattle.plan_status.specs.Live.{FeedsJoin, IsFed, IsLineProgress, SameFeed, LineProgressStays}
 use Rattle.plan_lanes.specs.declared.board.Report.{Report}
 use Rattle.plan_lanes.specs.declared.fault.LaneFault.{LaneFault}

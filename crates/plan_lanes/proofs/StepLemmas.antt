@@ -5,8 +5,8 @@ use Rattle.plan_image.specs.declared.image.Parts.{Parts}
 use Rattle.plan_verify.specs.Turn.{Local, Request}
 use Rattle.plan_machine.specs.declared.event.Event.{Event}
 use Rattle.plan_machine.specs.declared.event.Event.TheVariants.{Reply as Hear}
-use Rattle.plan_machine.specs.declared.event.mark.Mark.{Mark}
-use Rattle.plan_machine.specs.declared.event.mark.Mark.TheVariants as mark
+use Rattle.plan_machine.specs.declared.event.Mark.{Mark}
+use Rattle.plan_machine.specs.declared.event.Mark.TheVariants as mark
 use Rattle.plan_machine.specs.declared.event.reply.Reply.{Reply}
 use Rattle.plan_machine.specs.Depfile.{depfile}
 use Rattle.plan_machine.specs.Edges.{edge_of}
@@ -16,7 +16,7 @@ use Rattle.plan_machine.specs.Picking.{IsEnabled}
 use Rattle.plan_machine.specs.Requests.{Asks, asked_at, asked_by}
 use Rattle.plan_machine.specs.State.{Status, Unbegun, Active, Over, State, has_ended}
 use Rattle.plan_machine.specs.Step.{Next, NotEnabled, step}
-use Rattle.plan_lanes.specs.declared.owned_request.OwnedRequest.{OwnedRequest}
+use Rattle.plan_lanes.specs.declared.batch.OwnedRequest.{OwnedRequest}
 use Rattle.plan_lanes.specs.Advances.{WouldAsk}
 use Rattle.plan_lanes.specs.Boards.{Applies, MayJournal}
 use Rattle.plan_lanes.specs.Journals.{Rule}

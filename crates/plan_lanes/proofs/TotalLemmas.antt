@@ -5,7 +5,7 @@ use Rattle.plan_machine.specs.Depfile.{depfile}
 use Rattle.plan_machine.specs.Kept.{Running}
 use Rattle.plan_machine.specs.Limits.{Limits}
 use Rattle.plan_machine.specs.declared.event.Event.{Event}
-use Rattle.plan_machine.specs.declared.event.mark.Mark.{Mark}
+use Rattle.plan_machine.specs.declared.event.Mark.{Mark}
 use Rattle.plan_machine.specs.Runs.{Reached}
 use Rattle.plan_machine.specs.State.{State}
 use Rattle.plan_machine.specs.Total.{total_of}

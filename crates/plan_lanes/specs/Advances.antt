@@ -1,7 +1,7 @@
 -- What an advance does.
 use Rattle.std.specs.Prelude.{◌≡◌, true, Option, Some, None, IfSome, is_some, length}
 use Rattle.plan_machine.specs.declared.event.Event.{Event}
-use Rattle.plan_machine.specs.declared.event.mark.Mark.{Mark}
+use Rattle.plan_machine.specs.declared.event.Mark.{Mark}
 use Rattle.plan_machine.specs.Edges.{edge_of}
 use Rattle.plan_machine.specs.RunState.{RunState}
 use Rattle.plan_machine.specs.NeverStuck.{Awaits, is_own}
@@ -10,7 +10,7 @@ use Rattle.plan_image.specs.declared.image.Parts.{Parts}
 use Rattle.plan_machine.specs.Requests.{Asks, AsksNothing, asked_at}
 use Rattle.plan_machine.specs.State.{has_ended}
 use Rattle.plan_status.specs.Consoles.{is_console}
-use Rattle.plan_lanes.specs.declared.owned_request.OwnedRequest.{OwnedRequest}
+use Rattle.plan_lanes.specs.declared.batch.OwnedRequest.{OwnedRequest}
 use Rattle.plan_lanes.specs.declared.board.Advance.{Advance}
 use Rattle.plan_lanes.specs.declared.board.Advance.TheVariants.{Moved, Job, Wait, Ended}
 use Rattle.plan_lanes.specs.Boards.{Applies}

@@ -5,7 +5,7 @@ use Rattle.plan_verify.specs.Turn.{Request}
 use Rattle.plan_machine.specs.Limits.{Limits}
 use Rattle.plan_machine.specs.declared.event.Event.{Event}
 use Rattle.plan_machine.specs.declared.event.Event.TheVariants.{Reply as Hear}
-use Rattle.plan_machine.specs.declared.event.mark.Mark.{Mark}
+use Rattle.plan_machine.specs.declared.event.Mark.{Mark}
 use Rattle.plan_machine.specs.declared.event.reply.Reply.{Reply}
 use Rattle.plan_machine.specs.Depfile.{depfile}
 use Rattle.plan_machine.specs.Edges.{edge_of}

@@ -1,8 +1,8 @@
 -- Observable marks: marks that report something.
 use Rattle.std.specs.Prelude.{◌≡◌, ℕ, Bool, true, false, List, [], ◌∷◌, if◌then◌else◌}
 use Rattle.plan_image.specs.declared.image.Parts.{Parts}
-use Rattle.plan_machine.specs.declared.event.mark.Mark.{Mark}
-use Rattle.plan_machine.specs.declared.event.mark.Mark.TheVariants.{Started, Asked, Moved, Answered}
+use Rattle.plan_machine.specs.declared.event.Mark.{Mark}
+use Rattle.plan_machine.specs.declared.event.Mark.TheVariants.{Started, Asked, Moved, Answered}
 use Rattle.plan_status.specs.Lines.{lines_of}
 
 -- The mark says how an edge ended, or that it took or released a job token. Other marks say only that an edge went on.

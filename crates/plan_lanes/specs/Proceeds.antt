@@ -4,11 +4,11 @@ use Rattle.plan_image.specs.declared.image.Parts.{Parts}
 use Rattle.plan_verify.specs.Turn.{Local, Request}
 use Rattle.plan_machine.specs.declared.event.Event.{Event}
 use Rattle.plan_machine.specs.declared.event.Event.TheVariants.{Reply as Hear}
-use Rattle.plan_machine.specs.declared.event.mark.Mark.{Mark}
-use Rattle.plan_machine.specs.declared.event.mark.Mark.TheVariants as mark
+use Rattle.plan_machine.specs.declared.event.Mark.{Mark}
+use Rattle.plan_machine.specs.declared.event.Mark.TheVariants as mark
 use Rattle.plan_machine.specs.declared.event.reply.Reply.{Reply}
 use Rattle.plan_machine.specs.declared.event.reply.Reply.TheVariants.{Stamp}
-use Rattle.plan_machine.specs.declared.run.local_run.LocalRun.{LocalRun}
+use Rattle.plan_machine.specs.declared.run.local_runs.LocalRun.{LocalRun}
 use Rattle.plan_machine.specs.NeverStuck.{Awaits, is_own}
 use Rattle.plan_machine.specs.Picking.{IsEnabled}
 use Rattle.plan_machine.specs.State.{Active, has_ended}

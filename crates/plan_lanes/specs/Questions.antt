@@ -1,8 +1,8 @@
 -- What lanes carry of a question.
 use Rattle.std.specs.Prelude.{Bool, true, false, [], get_or}
 use Rattle.plan_verify.specs.Turn.{Request, Stat, Recall, Run, Deps, Keep}
-use Rattle.plan_lanes.specs.declared.owned_request.OwnedRequest.{OwnedRequest}
-use Rattle.plan_lanes.specs.declared.owned_request.OwnedRequest.TheVariants as asked
+use Rattle.plan_lanes.specs.declared.batch.OwnedRequest.{OwnedRequest}
+use Rattle.plan_lanes.specs.declared.batch.OwnedRequest.TheVariants as asked
 
 -- as one edge's step speaks of it
 abbrev pub shown : OwnedRequest → Request

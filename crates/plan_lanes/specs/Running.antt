@@ -7,7 +7,7 @@ use Rattle.plan_verify.specs.Tables.{pool_of}
 use Rattle.plan_verify.specs.Turn.{Meaning, Request, Run}
 use Rattle.plan_verify.specs.WellShaped.{IsWellShaped}
 use Rattle.plan_machine.specs.declared.event.Event.{Event}
-use Rattle.plan_machine.specs.declared.event.mark.Mark.{Mark}
+use Rattle.plan_machine.specs.declared.event.Mark.{Mark}
 use Rattle.plan_machine.specs.Limits.{Limits}
 use Rattle.plan_machine.specs.Places.{is_pool}
 use Rattle.plan_machine.specs.Requests.{asked_at}

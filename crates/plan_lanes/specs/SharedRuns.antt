@@ -1,7 +1,7 @@
 -- What lanes share under their lock.
 use Rattle.std.specs.Prelude.{◌≡◌, Option, Some, None, IfSome, is_some}
-use Rattle.plan_status.specs.declared.feed.Feed.{Feed}
-use Rattle.plan_status.specs.declared.line_progress.LineProgress.{LineProgress}
+use Rattle.plan_status.specs.declared.tap.Feed.{Feed}
+use Rattle.plan_status.specs.declared.format.LineProgress.{LineProgress}
 use Rattle.plan_status.specs.Live.{IsFed, IsLineProgress, IsUnused, SameFeed}
 use Rattle.plan_lanes.specs.declared.board.Report.{Report}
 use Rattle.plan_lanes.specs.declared.fault.LaneFault.{LaneFault}

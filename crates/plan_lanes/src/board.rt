@@ -23,9 +23,9 @@ ghost use Rattle.plan_lanes.specs.LocalRuns.{GoesOn};
 
 pub(crate) mod local_runs;
 
+use crate::batch::{OwnedRequest, Question};
 use crate::keeping_of::KeepingOf;
-use crate::observable::keep;
-use crate::owned_request::{OwnedRequest, Question};
+use crate::printed_run::keep;
 use crate::world::World;
 use plan_journal::{Journal, JournalBuilder, KeptJournal};
 use plan_machine::{

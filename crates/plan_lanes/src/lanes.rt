@@ -10,10 +10,9 @@ ghost use Rattle.plan_lanes.specs.Batches.{Takes};
 ghost use Rattle.plan_lanes.specs.Progress.{Opened, opened_with};
 ghost use Rattle.plan_lanes.specs.Reports.{IsKeptBy, IsRunOf};
 
-use crate::batch::{Batch, BatchItem};
+use crate::batch::{Batch, BatchItem, OwnedRequest, Question};
 use crate::board::{Advance, Board, Permit, Report};
 use crate::fault::LaneFault;
-use crate::owned_request::{OwnedRequest, Question};
 use crate::shared_run::{RunBrand, SharedRun, Stopped};
 use crate::world::World;
 use plan_machine::{Options, Refused};

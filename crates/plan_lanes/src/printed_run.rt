@@ -1,18 +1,20 @@
-//! Runs whose marks are shown while lanes work.
+//! Runs whose marks are shown while lanes work, and the marks that report something.
 
-ghost use Rattle.std.specs.Prelude.{◌≡◌, IfErr, IfOk, IfSome, is_some, true};
+ghost use Rattle.std.specs.Prelude.{◌≡◌, IfErr, IfOk, IfSome, is_some, true, ◌≤◌, ◌+◌, ◌++◌, ◌∷◌, [], vec_capacity, vec_len};
 ghost use Rattle.plan_machine.specs.State.{has_ended};
 ghost use Rattle.plan_status.specs.Live.{IsUnused, SameFeed};
 ghost use Rattle.plan_lanes.specs.SharedRuns.{FaultIsFed, ReportIsFed};
 ghost use Rattle.plan_lanes.specs.Faults.{FaultReports, report_of};
 ghost use Rattle.plan_lanes.specs.Progress.{Opened, opened_with};
 ghost use Rattle.plan_lanes.specs.Reports.{IsKeptBy, IsRunOf};
+ghost use Rattle.plan_lanes.specs.ObservableMarks as defined;
+ghost use Rattle.plan_lanes.specs.ObservableMarks.{TellAllLines, observable};
 
 use crate::board::{Board, Report};
 use crate::fault::LaneFault;
 use crate::lanes::{run_named, to_result};
 use crate::world::World;
-use plan_machine::{Options, Refused};
+use plan_machine::{Mark, Options, Refused};
 use plan_status::{Feed, LineProgress};
 use plan_verify::Verified;
 use std::alloc::Global;
@@ -170,3 +172,28 @@ pub fn run_lanes_shown<W: World + Send + Sync, R: Threads + Wait + Sync>(
     };
     run.run(rt, world)
 }
+
+/// Checks whether a mark reports something: how an edge ended, or that it took or released a job token.
+fn is_observable(mark: Mark) -> bool
+    ensures { result ≡ defined.is_observable mark }
+{
+    !matches!(
+        mark,
+        Mark::Started(_) | Mark::Asked(_) | Mark::Moved(_) | Mark::Answered(_)
+    )
+}
+
+/// Appends a mark if it reports something.
+pub(crate) fn keep(marks: &mut Vec<Mark>, mark: Mark)
+    requires { vec_len marks.old + 1 ≤ vec_capacity marks.old }
+    ensures { marks.new.items ≡ marks.old.items ++ observable (mark ∷ []) }
+{
+    if is_observable(mark) {
+        marks.push_reserved(mark);
+    }
+}
+
+/// States that the status lines of a run's marks are those of the marks that report something.
+pub fn lines_are_told()
+    ensures { TellAllLines }
+{}

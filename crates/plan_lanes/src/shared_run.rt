@@ -3,7 +3,7 @@
 ghost use Rattle.std.specs.Prelude.{◌≡◌, ◌≢◌, ◌⊎◌, [], IfErr, IfOk, None, Ok, false, get_or, true};
 ghost use Rattle.plan_verify.specs.Turn.{Stat};
 ghost use Rattle.plan_machine.specs.declared.event.Event.TheVariants.{Reply as Hear};
-ghost use Rattle.plan_machine.specs.declared.event.mark.Mark.{Mark};
+ghost use Rattle.plan_machine.specs.declared.event.Mark.{Mark};
 ghost use Rattle.plan_machine.specs.Requests.{asked_at};
 ghost use Rattle.plan_lanes.specs.Boards.{Applies, IsOpen};
 ghost use Rattle.plan_lanes.specs.SharedRuns.{IsSharedRun};
@@ -11,8 +11,8 @@ ghost use Rattle.plan_lanes.specs.Proceeds.{AnswersRow, AwaitsReply, Proceeds};
 ghost use Rattle.plan_lanes.specs.Questions.{shown};
 ghost use Rattle.plan_lanes.specs.LocalRuns.{GoesOn};
 
+use crate::batch::Question;
 use crate::board::{Advance, Board};
-use crate::owned_request::Question;
 use crate::stamp_row::StampRow;
 use crate::world::World;
 use plan_machine::{Refused, Reply};
@@ -23,7 +23,7 @@ use std::marker::{Brand, Model, PhantomData};
 /// of `run_lanes` picks the names.
 pub trait RunBrand {
     ghost use Rattle.std.specs.Prelude.{Option};
-    ghost use Rattle.plan_status.specs.declared.feed.Feed.{Feed};
+    ghost use Rattle.plan_status.specs.declared.tap.Feed.{Feed};
     ghost use Rattle.plan_lanes.specs.Progress.{Opened};
 
     ghost run: { Opened };

@@ -6,7 +6,7 @@ ghost use Rattle.plan_verify.specs.Turn.{Stat};
 ghost use Rattle.plan_lanes.specs.Questions.{shown};
 ghost use Rattle.plan_lanes.specs.StampRows.{HaveStamps};
 
-use crate::owned_request::{OwnedRequest, Question};
+use crate::batch::{OwnedRequest, Question};
 use crate::world::World;
 use plan_machine::Reply;
 use plan_verify::PathList;

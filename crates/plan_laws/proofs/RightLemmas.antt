@@ -18,8 +18,8 @@ use Rattle.plan_machine.specs.Depfile.{depfile}
 use Rattle.plan_machine.specs.Histories.{stage_of, EachRanByItself, SlotsStay}
 use Rattle.plan_machine.specs.State.{State, Status, Unbegun, Active, Over, outcome_at}
 use Rattle.plan_machine.specs.Step.{ended}
-use Rattle.plan_machine.specs.declared.event.mark.Mark.{Mark}
-use Rattle.plan_machine.specs.declared.event.mark.Outcome.TheVariants.{Clean, Ran, Failed, Skipped, Stopped, NotWanted}
+use Rattle.plan_machine.specs.declared.event.Mark.{Mark}
+use Rattle.plan_machine.specs.declared.event.Outcome.TheVariants.{Clean, Ran, Failed, Skipped, Stopped, NotWanted}
 use Rattle.plan_status.specs.Outcomes.{is_done, are_done}
 use Rattle.plan_lanes.specs.Journals.{Rule}
 use Rattle.plan_laws.specs.Ends.{EndsArePlain}

@@ -11,8 +11,8 @@ use Rattle.plan_compile.specs.InteractionTree.{Left, Over, Follows}
 use Rattle.plan_compile.specs.Rule.{Path, SourceFile, Command, Recorded, baseline_by, paths_in, is_dirty}
 use Rattle.plan_compile.specs.Stricter.{by_rule}
 use Rattle.plan_compile.specs.Told.{edge_does}
-use Rattle.plan_machine.specs.declared.event.mark.Mark.{Mark}
-use Rattle.plan_machine.specs.declared.event.mark.Mark.TheVariants.{Started, Ended}
+use Rattle.plan_machine.specs.declared.event.Mark.{Mark}
+use Rattle.plan_machine.specs.declared.event.Mark.TheVariants.{Started, Ended}
 use Rattle.plan_machine.specs.declared.event.reply.Reply.TheVariants as reply
 use Rattle.plan_lanes.specs.Journals.{Rule}
 use Rattle.plan_laws.specs.Ends.{Exchange, AreStamps, file_exchanges, input_exchanges, entry_reply, Observations, WasClean, CommandSucceeded, Succeeds, commands_in}

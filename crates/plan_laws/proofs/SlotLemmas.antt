@@ -3,7 +3,7 @@
 use Rattle.std.proofs.Common.{◌≡◌, ℕ, zero, suc, Bool, true, false, List, [], ◌∷◌, map, Option, Some, None, refl, sym, ap, ◌∙◌, subst}
 use Rattle.std.specs.Prelude.{◌&&◌, if◌then◌else◌, slice_get}
 use Rattle.plan_image.specs.declared.image.Parts.{Parts}
-use Rattle.plan_image.specs.declared.instr.Kind.TheVariants as kind
+use Rattle.plan_image.specs.declared.body.Kind.TheVariants as kind
 use Rattle.plan_verify.specs.Tables.{owns, is_lent}
 use Rattle.plan_verify.specs.Turn.{Slots, Meaning}
 use Rattle.plan_compile.specs.declared.layout.Input.{Input}

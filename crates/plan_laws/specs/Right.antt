@@ -21,8 +21,8 @@ use Rattle.plan_machine.specs.Limits.{Limits}
 use Rattle.plan_machine.specs.State.{State, Over}
 use Rattle.plan_machine.specs.Step.{answer_of, ended}
 use Rattle.plan_machine.specs.Wanted.{IsWanted}
-use Rattle.plan_machine.specs.declared.event.mark.Mark.{Mark}
-use Rattle.plan_machine.specs.declared.event.mark.Mark.TheVariants.{Started, Ended}
+use Rattle.plan_machine.specs.declared.event.Mark.{Mark}
+use Rattle.plan_machine.specs.declared.event.Mark.TheVariants.{Started, Ended}
 use Rattle.plan_machine.specs.declared.event.reply.Reply.{Reply}
 use Rattle.plan_status.specs.Outcomes.{all_done}
 use Rattle.plan_lanes.specs.Journals.{Rule}

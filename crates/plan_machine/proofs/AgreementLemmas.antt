@@ -13,8 +13,8 @@ use Rattle.plan_verify.specs.WellShaped.{IsWellShaped}
 use Rattle.plan_verify.specs.Alone.{Stage, Runs, Ended, Failed as Broke, WentWrong}
 use Rattle.plan_machine.proofs.ListLemmas.{and_both}
 use Rattle.plan_machine.specs.declared.event.reply.Reply.{Reply}
-use Rattle.plan_machine.specs.declared.event.mark.Outcome.{Outcome}
-use Rattle.plan_machine.specs.declared.event.mark.Outcome.TheVariants.{Clean, Ran, Failed, Skipped, Stopped, NotWanted}
+use Rattle.plan_machine.specs.declared.event.Outcome.{Outcome}
+use Rattle.plan_machine.specs.declared.event.Outcome.TheVariants.{Clean, Ran, Failed, Skipped, Stopped, NotWanted}
 use Rattle.plan_machine.specs.State.{Status, Unbegun, Active, Over, State, has_succeeded, is_unsuccessful, is_over, passes, stands, has_ended, outcome_at}
 use Rattle.plan_machine.specs.Step.{ended}
 use Rattle.plan_machine.specs.Wanted.{AreWanted}

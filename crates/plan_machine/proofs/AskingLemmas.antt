@@ -2,8 +2,8 @@
 use Rattle.std.proofs.Common.{◌≡◌, ℕ, zero, suc, ◌<◌, ◌≤◌, Bool, true, false, List, [], ◌∷◌, ◌++◌, ◌+◌, length, arith, Option, Some, None, refl, sym, ap, ◌∙◌, subst}
 use Rattle.std.specs.Prelude.{◌&&◌, ◌==◌, slice_get, IfSome, IsSome, nat_lt, bytes_eq}
 use Rattle.std.proofs.lemmas.Option.{slice_get_within}
-use Rattle.plan_image.specs.declared.instr.Instr.{Instr}
-use Rattle.plan_image.specs.declared.instr.Instr.TheVariants as op
+use Rattle.plan_image.specs.declared.body.Instr.{Instr}
+use Rattle.plan_image.specs.declared.body.Instr.TheVariants as op
 use Rattle.plan_image.specs.declared.image.Parts.{Parts}
 use Rattle.plan_image.specs.Code.{code}
 use Rattle.plan_verify.specs.declared.value.Value.{Value}
@@ -13,10 +13,10 @@ use Rattle.plan_verify.specs.Sound.{asking}
 use Rattle.plan_verify.specs.declared.value.Cause.TheVariants.{TextTooLong}
 use Rattle.std.proofs.lemmas.Bool.{le-ltb}
 use Rattle.plan_machine.specs.Turned.{IsMade}
-use Rattle.plan_machine.specs.declared.edge.turned.Turned.TheVariants as turned
+use Rattle.plan_machine.specs.declared.edge.turns.Turned.TheVariants as turned
 use Rattle.plan_machine.proofs.ListLemmas.{get_inside, when_true, when_false, when_either}
-use Rattle.plan_machine.specs.declared.edge.turned.Heard.{Heard}
-use Rattle.plan_machine.specs.declared.edge.turned.Heard.TheVariants as hearing
+use Rattle.plan_machine.specs.declared.edge.turns.Heard.{Heard}
+use Rattle.plan_machine.specs.declared.edge.turns.Heard.TheVariants as hearing
 use Rattle.plan_machine.specs.Depfile.{depfile}
 use Rattle.plan_machine.specs.Working.{Works, HasText, HasPaths, IsSweeping, Sweeps}
 use Rattle.plan_machine.specs.Hearing.{IsHeard}

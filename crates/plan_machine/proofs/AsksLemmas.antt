@@ -4,8 +4,8 @@ use Rattle.std.specs.Prelude.{◌||◌, ◌&&◌, IfNone, IfSome, Result, Ok, Er
 use Rattle.std.specs.List.{list_all}
 use Rattle.std.proofs.lemmas.Bool.{cases_Bool}
 use Rattle.std.proofs.lemmas.Option.{slice_get_within}
-use Rattle.plan_image.specs.declared.instr.Instr.{Instr}
-use Rattle.plan_image.specs.declared.instr.Instr.TheVariants as op
+use Rattle.plan_image.specs.declared.body.Instr.{Instr}
+use Rattle.plan_image.specs.declared.body.Instr.TheVariants as op
 use Rattle.plan_image.specs.declared.image.Parts.{Parts}
 use Rattle.plan_image.specs.Code.{code}
 use Rattle.plan_verify.specs.declared.value.Value.{Value}
@@ -16,8 +16,8 @@ use Rattle.plan_verify.specs.Turn.{Slots, Local, Request as Question, Did, Moved
 use Rattle.plan_verify.specs.Sound.{asking}
 use Rattle.plan_machine.specs.declared.event.Event.{Event}
 use Rattle.plan_machine.specs.declared.event.Event.TheVariants.{Start, Skip, Stop, Step, Reply as Hear}
-use Rattle.plan_machine.specs.declared.event.mark.Mark.TheVariants as mark
-use Rattle.plan_machine.specs.declared.event.request.Request.{Request}
+use Rattle.plan_machine.specs.declared.event.Mark.TheVariants as mark
+use Rattle.plan_machine.specs.declared.event.Request.{Request}
 use Rattle.plan_machine.specs.State.{Status, Unbegun, Active, Over, State, is_unsuccessful, has_succeeded, stands, with_status}
 use Rattle.plan_machine.specs.Places.{at_take, is_free, is_spent}
 use Rattle.plan_machine.specs.RunState.{RunState}

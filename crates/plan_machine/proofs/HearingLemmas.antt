@@ -7,19 +7,19 @@ use Rattle.plan_verify.specs.Turn.{Local, Turn, heard, Reply as Answer}
 use Rattle.plan_machine.proofs.ListLemmas.{get_same}
 use Rattle.plan_machine.specs.declared.event.reply.Reply.{Reply}
 use Rattle.plan_machine.specs.declared.event.Event.TheVariants.{Reply as Hear}
-use Rattle.plan_machine.specs.declared.event.mark.Mark.{Mark}
-use Rattle.plan_machine.specs.declared.event.mark.Mark.TheVariants as mark
-use Rattle.plan_machine.specs.declared.event.mark.Outcome.TheVariants.{Failed}
+use Rattle.plan_machine.specs.declared.event.Mark.{Mark}
+use Rattle.plan_machine.specs.declared.event.Mark.TheVariants as mark
+use Rattle.plan_machine.specs.declared.event.Outcome.TheVariants.{Failed}
 use Rattle.plan_machine.specs.State.{Status, Unbegun, Active, Over, passes, with_status}
 use Rattle.plan_machine.specs.declared.run.refused.Refused.{Refused}
 use Rattle.plan_machine.specs.declared.run.refused.Refused.TheVariants as refused
-use Rattle.plan_machine.specs.declared.edge.turned.Heard.{Heard}
-use Rattle.plan_machine.specs.declared.edge.turned.Heard.TheVariants as hearing
+use Rattle.plan_machine.specs.declared.edge.turns.Heard.{Heard}
+use Rattle.plan_machine.specs.declared.edge.turns.Heard.TheVariants as hearing
 use Rattle.plan_machine.specs.Step.{Stepped, Next, NotEnabled, hears_by, hears, answer_of, step}
 use Rattle.plan_machine.specs.RunState.{RunState}
 use Rattle.plan_machine.specs.Depfile.{depfile}
 use Rattle.plan_machine.specs.Applying.{Applied, is_active}
-use Rattle.plan_machine.specs.declared.edge.parked.Parked.{Parked}
+use Rattle.plan_machine.specs.declared.edge.status.Parked.{Parked}
 use Rattle.plan_machine.specs.ParkedLocal.{parked_local}
 use Rattle.plan_machine.specs.Hearing.{IsHeard, HasAnswered, HasHeard, SettlesReply}
 use Rattle.plan_machine.proofs.AskingLemmas.{heard_unasked}

@@ -10,7 +10,7 @@ use Rattle.plan_verify.specs.Turn.{Slots, begun, Meaning}
 use Rattle.plan_verify.specs.Alone.{Stage, Runs, Ended, Failed as Broke}
 use Rattle.plan_machine.proofs.ListLemmas.{get_cases, get_other}
 use Rattle.plan_machine.specs.declared.event.reply.Reply.{Reply}
-use Rattle.plan_machine.specs.declared.event.mark.Outcome.TheVariants.{Clean, Ran, Failed, Skipped, Stopped, NotWanted}
+use Rattle.plan_machine.specs.declared.event.Outcome.TheVariants.{Clean, Ran, Failed, Skipped, Stopped, NotWanted}
 use Rattle.plan_machine.specs.State.{Status, Unbegun, Active, Over, State, has_succeeded, is_unsuccessful, is_over, passes, stands}
 use Rattle.plan_machine.specs.Standing.{Stands}
 use Rattle.plan_machine.specs.Total.{is_wanted}

@@ -15,8 +15,8 @@ use Rattle.plan_schedule.specs.declared.schedule.Schedule.{Schedule}
 use Rattle.plan_schedule.specs.Phases.{holds, has_failed as phase_failed, is_open, has_succeeded as phase_well, is_unsuccessful as phase_ill, phase_at}
 use Rattle.plan_schedule.specs.Counts.{one, holders_of}
 use Rattle.plan_schedule.specs.Scheduling.{IsSchedule, edges_of, count_unsucceeded}
-use Rattle.plan_machine.specs.declared.event.mark.Outcome.{Outcome}
-use Rattle.plan_machine.specs.declared.event.mark.Outcome.TheVariants.{Clean, Ran, Failed, Skipped, Stopped, NotWanted}
+use Rattle.plan_machine.specs.declared.event.Outcome.{Outcome}
+use Rattle.plan_machine.specs.declared.event.Outcome.TheVariants.{Clean, Ran, Failed, Skipped, Stopped, NotWanted}
 use Rattle.plan_machine.specs.State.{Status, Unbegun, Active, Over, State, has_succeeded, is_unsuccessful, is_over, has_failed, is_holder, passes, stands, has_ended}
 use Rattle.plan_machine.specs.Places.{is_pool, holders_from, at_take}
 use Rattle.plan_schedule.specs.Opening.{opening_phase}

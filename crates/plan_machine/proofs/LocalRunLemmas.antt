@@ -2,8 +2,8 @@
 use Rattle.std.proofs.Common.{◌≡◌, ℕ, zero, suc, Bool, true, false, List, [], ◌∷◌, ◌++◌, Option, Some, refl, sym, ap, ◌∙◌, subst, arith}
 use Rattle.std.specs.Prelude.{Ok, ◌&&◌, not, ◌==◌, slice_get, slice_set}
 use Rattle.plan_image.specs.declared.image.Parts.{Parts}
-use Rattle.plan_image.specs.declared.instr.Instr.{Instr}
-use Rattle.plan_image.specs.declared.instr.Instr.TheVariants as op
+use Rattle.plan_image.specs.declared.body.Instr.{Instr}
+use Rattle.plan_image.specs.declared.body.Instr.TheVariants as op
 use Rattle.plan_image.specs.Code.{code}
 use Rattle.plan_verify.specs.Turn.{Local, Slots}
 use Rattle.plan_verify.specs.WellShaped.{IsWellShaped}
@@ -12,11 +12,11 @@ use Rattle.plan_schedule.specs.declared.schedule.Schedule.{Schedule}
 use Rattle.plan_machine.specs.Limits.{Limits}
 use Rattle.plan_machine.specs.declared.event.Event.{Event}
 use Rattle.plan_machine.specs.declared.event.Event.TheVariants.{Step}
-use Rattle.plan_machine.specs.declared.event.mark.Mark.{Mark}
-use Rattle.plan_machine.specs.declared.event.mark.Mark.TheVariants as mark
-use Rattle.plan_machine.specs.declared.run.local_run.LocalRun.{LocalRun}
-use Rattle.plan_machine.specs.declared.edge.turned.Turned.{Turned}
-use Rattle.plan_machine.specs.declared.edge.turned.Turned.TheVariants as turned
+use Rattle.plan_machine.specs.declared.event.Mark.{Mark}
+use Rattle.plan_machine.specs.declared.event.Mark.TheVariants as mark
+use Rattle.plan_machine.specs.declared.run.local_runs.LocalRun.{LocalRun}
+use Rattle.plan_machine.specs.declared.edge.turns.Turned.{Turned}
+use Rattle.plan_machine.specs.declared.edge.turns.Turned.TheVariants as turned
 use Rattle.plan_machine.specs.State.{Status, Active, State}
 use Rattle.plan_machine.specs.Step.{Next, step}
 use Rattle.plan_machine.specs.RunState.{RunState}

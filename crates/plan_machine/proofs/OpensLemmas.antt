@@ -10,8 +10,8 @@ use Rattle.plan_machine.proofs.ListLemmas.{some_is, map_length}
 use Rattle.plan_machine.specs.Limits.{Limits}
 use Rattle.plan_machine.specs.TurnLaws.{TurnLaws}
 use Rattle.plan_machine.specs.declared.event.Event.{Event}
-use Rattle.plan_machine.specs.declared.event.mark.Mark.{Mark}
-use Rattle.plan_machine.specs.declared.event.mark.Outcome.TheVariants.{NotWanted}
+use Rattle.plan_machine.specs.declared.event.Mark.{Mark}
+use Rattle.plan_machine.specs.declared.event.Outcome.TheVariants.{NotWanted}
 use Rattle.plan_machine.specs.State.{Status, Unbegun, Active, Over, State, has_succeeded}
 use Rattle.plan_machine.specs.Wanted.{is_waited}
 use Rattle.plan_machine.specs.Runs.{at_first, Opens, Reached}

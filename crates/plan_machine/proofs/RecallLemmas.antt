@@ -5,7 +5,7 @@ use Rattle.std.specs.List.{list_all}
 use Rattle.std.proofs.lemmas.Bool.{ne_eqb, eq-eqb}
 use Rattle.std.proofs.lemmas.List.{append_assoc}
 use Rattle.plan_image.specs.declared.image.Parts.{Parts}
-use Rattle.plan_verify.specs.declared.shape.Shape.{Shape}
+use Rattle.plan_verify.specs.declared.kinds.Shape.{Shape}
 use Rattle.plan_verify.specs.Tables.{waits_of, owns, is_lent}
 use Rattle.plan_verify.specs.Members.{is_member}
 use Rattle.plan_verify.specs.Turn.{Slots, Local, begun, Did, Turn, Goes, Sets, Asks, Ends, Fails, Wrong as Errs, Meaning, turn, heard, replied_at}
@@ -18,8 +18,8 @@ use Rattle.plan_machine.specs.Limits.{Limits}
 use Rattle.plan_machine.specs.declared.event.reply.Reply.{Reply}
 use Rattle.plan_machine.specs.declared.event.Event.{Event}
 use Rattle.plan_machine.specs.declared.event.Event.TheVariants.{Start, Skip, Stop, Step, Reply as Hear}
-use Rattle.plan_machine.specs.declared.event.mark.Mark.{Mark}
-use Rattle.plan_machine.specs.declared.event.mark.Outcome.TheVariants.{Failed, Skipped, Stopped, NotWanted}
+use Rattle.plan_machine.specs.declared.event.Mark.{Mark}
+use Rattle.plan_machine.specs.declared.event.Outcome.TheVariants.{Failed, Skipped, Stopped, NotWanted}
 use Rattle.plan_machine.specs.State.{Status, Unbegun, Active, Over, State, has_succeeded, is_unsuccessful, stands, has_failed}
 use Rattle.plan_machine.specs.Step.{Stepped, Next, Wrong, NotEnabled, stepped, answered, ended, settles, hears_by, starts, skips, stops, steps, hears, answer_of, step}
 use Rattle.plan_machine.specs.Places.{is_spent, is_free, at_take}

@@ -8,12 +8,12 @@ use Rattle.plan_verify.specs.Turn.{Local, begun, Did, Turn, Goes, Sets, Asks, En
 use Rattle.plan_machine.specs.declared.event.reply.Reply.{Reply}
 use Rattle.plan_machine.specs.declared.event.Event.{Event}
 use Rattle.plan_machine.specs.declared.event.Event.TheVariants.{Start, Step, Reply as Hear}
-use Rattle.plan_machine.specs.declared.event.mark.Mark.{Mark}
-use Rattle.plan_machine.specs.declared.event.mark.Mark.TheVariants as mark
+use Rattle.plan_machine.specs.declared.event.Mark.{Mark}
+use Rattle.plan_machine.specs.declared.event.Mark.TheVariants as mark
 use Rattle.plan_machine.specs.declared.run.refused.Refused.{Refused}
 use Rattle.plan_machine.specs.declared.run.refused.Refused.TheVariants as refused
-use Rattle.plan_machine.specs.declared.edge.turned.Heard.{Heard}
-use Rattle.plan_machine.specs.declared.edge.turned.Heard.TheVariants as hearing
+use Rattle.plan_machine.specs.declared.edge.turns.Heard.{Heard}
+use Rattle.plan_machine.specs.declared.edge.turns.Heard.TheVariants as hearing
 use Rattle.plan_machine.specs.State.{Status, Unbegun, Active, Over, State, has_succeeded, passes, stands, with_status}
 use Rattle.plan_machine.specs.Places.{is_free, at_take}
 use Rattle.plan_machine.specs.Step.{Stepped, Next, NotEnabled, answer_of, answered, hears, hears_by, settles, stepped, steps, step}

@@ -3,8 +3,8 @@ use Rattle.std.proofs.Common.{◌≡◌, ℕ, zero, suc, ◌+◌, ◌<◌, ◌�
 use Rattle.std.specs.Prelude.{nat_le, nat_lt, slice_get, option_map, IsSome, if◌then◌else◌, not}
 use Rattle.std.specs.List.{list_all}
 use Rattle.std.proofs.lemmas.Option.{get_or_from_slice_get, slice_get_past}
-use Rattle.plan_image.specs.declared.instr.Instr.{Instr}
-use Rattle.plan_image.specs.declared.instr.Instr.TheVariants as op
+use Rattle.plan_image.specs.declared.body.Instr.{Instr}
+use Rattle.plan_image.specs.declared.body.Instr.TheVariants as op
 use Rattle.plan_image.specs.declared.image.Slot.{Slot}
 use Rattle.plan_image.specs.declared.image.Parts.{Parts}
 use Rattle.plan_image.specs.Code.{code}
@@ -13,7 +13,7 @@ use Rattle.plan_verify.specs.declared.value.Value.TheVariants.{Stamp, Flag, Text
 use Rattle.plan_verify.specs.Tables.{outputs_of, own_slots, path_of, paths_of, pool_outside, with_path}
 use Rattle.plan_verify.specs.Turn.{Slots, is_set, Local, Request as Question, Stat, Run, Deps, Keep, Turn, Wrong, PlaceNotHeld, Calculated, On, TooLong, Off, act, branches, calculate, calculated, ends, jumps, keeps, loads, goes, reads, request_of, runs, stores, sweep, sweeps, writes}
 use Rattle.plan_machine.specs.Lent.{paths_by}
-use Rattle.plan_machine.specs.declared.event.request.Request.{Request}
+use Rattle.plan_machine.specs.declared.event.Request.{Request}
 use Rattle.plan_machine.specs.Requests.{HasPathsAt, HasStampAt, HasSweptAt, HasTextAt, asked_at, asked_by, is_asking, shown}
 use Rattle.plan_machine.specs.Standing.{Stands}
 use Rattle.plan_machine.specs.State.{Status, Active, State}

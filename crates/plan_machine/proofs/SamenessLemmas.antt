@@ -11,8 +11,8 @@ use Rattle.plan_verify.specs.declared.value.Cause.{Cause}
 use Rattle.plan_verify.specs.declared.value.Cause.TheVariants as cause
 use Rattle.plan_verify.specs.Turn.{Slots}
 use Rattle.plan_machine.proofs.ListLemmas.{and_both}
-use Rattle.plan_machine.specs.declared.event.mark.Outcome.{Outcome}
-use Rattle.plan_machine.specs.declared.event.mark.Outcome.TheVariants.{Clean, Ran, Failed, Skipped, Stopped, NotWanted}
+use Rattle.plan_machine.specs.declared.event.Outcome.{Outcome}
+use Rattle.plan_machine.specs.declared.event.Outcome.TheVariants.{Clean, Ran, Failed, Skipped, Stopped, NotWanted}
 use Rattle.plan_machine.specs.State.{Status, Unbegun, Active, Over, is_over, outcome_at}
 use Rattle.plan_machine.specs.Agreement.{AreAlike, BothAlike}
 use Rattle.plan_machine.specs.Sameness.{same_cause, same_outcome, same_status, same_statuses, same_paths, same_flag, same_value, same_slot, same_slots, SameEndsTell}

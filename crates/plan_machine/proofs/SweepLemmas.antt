@@ -2,8 +2,8 @@
 use Rattle.std.proofs.Common.{◌≡◌, ℕ, ◌+◌, Bool, true, false, List, [], ◌∷◌, length, Option, Some, refl, sym, ap, ◌∙◌, subst}
 use Rattle.std.specs.Prelude.{◌||◌, ◌==◌, Ok, nat_lt, slice_get, if◌then◌else◌}
 use Rattle.std.proofs.lemmas.Option.{slice_get_within}
-use Rattle.plan_image.specs.declared.instr.Instr.{Instr}
-use Rattle.plan_image.specs.declared.instr.Instr.TheVariants as op
+use Rattle.plan_image.specs.declared.body.Instr.{Instr}
+use Rattle.plan_image.specs.declared.body.Instr.TheVariants as op
 use Rattle.plan_image.specs.declared.image.Parts.{Parts}
 use Rattle.plan_image.specs.Code.{code}
 use Rattle.plan_verify.specs.declared.value.Value.{Value}
@@ -12,9 +12,9 @@ use Rattle.plan_verify.specs.Turn.{Slots, Request, Stat, Local, Moved, Turn, Goe
 use Rattle.plan_verify.specs.Sound.{asking}
 use Rattle.plan_machine.specs.declared.event.Event.TheVariants.{Step, Reply as Hear}
 use Rattle.plan_machine.specs.declared.event.reply.Reply.TheVariants as reply
-use Rattle.plan_machine.specs.declared.event.mark.Mark.TheVariants as mark
-use Rattle.plan_machine.specs.declared.edge.turned.Turned.TheVariants as turned
-use Rattle.plan_machine.specs.declared.edge.turned.Heard.TheVariants as hearing
+use Rattle.plan_machine.specs.declared.event.Mark.TheVariants as mark
+use Rattle.plan_machine.specs.declared.edge.turns.Turned.TheVariants as turned
+use Rattle.plan_machine.specs.declared.edge.turns.Heard.TheVariants as hearing
 use Rattle.plan_machine.specs.State.{Status, Active, State, with_status}
 use Rattle.plan_machine.specs.RunState.{RunState}
 use Rattle.plan_machine.specs.Depfile.{depfile}

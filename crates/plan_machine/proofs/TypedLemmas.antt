@@ -7,7 +7,7 @@ use Rattle.plan_image.specs.declared.image.Slot.{Slot}
 use Rattle.plan_image.specs.declared.image.Parts.{Parts}
 use Rattle.plan_image.specs.Code.{code}
 use Rattle.plan_verify.specs.declared.value.Value.{Value}
-use Rattle.plan_verify.specs.declared.shape.Shape.{Shape}
+use Rattle.plan_verify.specs.declared.kinds.Shape.{Shape}
 use Rattle.plan_verify.specs.Tables.{owns, owned_by, slot_kind}
 use Rattle.plan_verify.specs.Turn.{kind_of, Slots, is_filled, is_set, begun}
 use Rattle.plan_verify.specs.WellShaped.{at_start, arriving, AreAllShapes}

@@ -6,13 +6,13 @@ use Rattle.plan_verify.specs.Turn.{Slots, Local, turn}
 use Rattle.plan_machine.specs.Limits.{Limits}
 use Rattle.plan_machine.specs.declared.event.Event.{Event}
 use Rattle.plan_machine.specs.declared.event.Event.TheVariants.{Skip, Stop}
-use Rattle.plan_machine.specs.declared.event.mark.Mark.{Mark}
-use Rattle.plan_machine.specs.declared.event.mark.Mark.TheVariants as mark
-use Rattle.plan_machine.specs.declared.event.mark.Outcome.TheVariants.{Failed}
+use Rattle.plan_machine.specs.declared.event.Mark.{Mark}
+use Rattle.plan_machine.specs.declared.event.Mark.TheVariants as mark
+use Rattle.plan_machine.specs.declared.event.Outcome.TheVariants.{Failed}
 use Rattle.plan_machine.specs.declared.run.refused.Refused.{Refused}
 use Rattle.plan_machine.specs.declared.run.refused.Refused.TheVariants as refused
-use Rattle.plan_machine.specs.declared.edge.turned.Turned.{Turned}
-use Rattle.plan_machine.specs.declared.edge.turned.Turned.TheVariants as turned
+use Rattle.plan_machine.specs.declared.edge.turns.Turned.{Turned}
+use Rattle.plan_machine.specs.declared.edge.turns.Turned.TheVariants as turned
 use Rattle.plan_machine.specs.State.{Status, Unbegun, Active, Over, State, with_status}
 use Rattle.plan_machine.specs.Places.{at_take, is_free}
 use Rattle.plan_machine.specs.Step.{Next, NotEnabled, ended, step}

@@ -3,13 +3,13 @@ use Rattle.std.specs.Prelude.{◌≡◌, ℕ, ◌<◌, length, Option, Some, Non
 use Rattle.plan_image.specs.declared.image.Parts.{Parts}
 use Rattle.plan_image.specs.Code.{code}
 use Rattle.plan_verify.specs.Turn.{Local, Turn, Goes, Moved, Fails, heard, question, Reply as Answer}
-use Rattle.plan_machine.specs.declared.event.mark.Mark.{Mark}
-use Rattle.plan_machine.specs.declared.event.mark.Mark.TheVariants as mark
-use Rattle.plan_machine.specs.declared.event.mark.Outcome.TheVariants.{Failed}
+use Rattle.plan_machine.specs.declared.event.Mark.{Mark}
+use Rattle.plan_machine.specs.declared.event.Mark.TheVariants as mark
+use Rattle.plan_machine.specs.declared.event.Outcome.TheVariants.{Failed}
 use Rattle.plan_machine.specs.declared.run.refused.Refused.{Refused}
 use Rattle.plan_machine.specs.declared.run.refused.Refused.TheVariants.{NotEnabled}
-use Rattle.plan_machine.specs.declared.edge.turned.Heard.{Heard}
-use Rattle.plan_machine.specs.declared.edge.turned.Heard.TheVariants as hearing
+use Rattle.plan_machine.specs.declared.edge.turns.Heard.{Heard}
+use Rattle.plan_machine.specs.declared.edge.turns.Heard.TheVariants as hearing
 use Rattle.plan_machine.specs.State.{Status, Active, Over, with_status}
 use Rattle.plan_machine.specs.RunState.{RunState}
 use Rattle.plan_machine.specs.Depfile.{depfile}

@@ -7,7 +7,7 @@ use Rattle.plan_verify.specs.Budget.{image_budget, brought, IsFrugal}
 use Rattle.plan_machine.specs.Limits.{Limits}
 use Rattle.plan_machine.specs.declared.event.Event.{Event}
 use Rattle.plan_machine.specs.declared.event.Event.TheVariants.{Reply as Hear}
-use Rattle.plan_machine.specs.declared.event.mark.Mark.{Mark}
+use Rattle.plan_machine.specs.declared.event.Mark.{Mark}
 use Rattle.plan_machine.specs.State.{State}
 use Rattle.plan_machine.specs.Step.{answer_of}
 use Rattle.plan_machine.specs.Runs.{Reached}

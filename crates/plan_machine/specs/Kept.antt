@@ -9,9 +9,9 @@ use Rattle.plan_schedule.specs.declared.phase.Phase.TheVariants as phase
 use Rattle.plan_schedule.specs.declared.plan.Plan.{Plan}
 use Rattle.plan_schedule.specs.declared.schedule.Schedule.{Schedule}
 use Rattle.plan_schedule.specs.Scheduling.{IsSchedule, IsPlan, edges_of, waits_of as waits_by}
-use Rattle.plan_machine.specs.declared.event.mark.Mark.{Mark}
-use Rattle.plan_machine.specs.declared.event.mark.Outcome.{Outcome}
-use Rattle.plan_machine.specs.declared.event.mark.Outcome.TheVariants.{Clean, Ran, Failed, Skipped, Stopped, NotWanted}
+use Rattle.plan_machine.specs.declared.event.Mark.{Mark}
+use Rattle.plan_machine.specs.declared.event.Outcome.{Outcome}
+use Rattle.plan_machine.specs.declared.event.Outcome.TheVariants.{Clean, Ran, Failed, Skipped, Stopped, NotWanted}
 use Rattle.plan_machine.specs.declared.event.Event.{Event}
 use Rattle.plan_machine.specs.State.{Status, Unbegun, Active, Over, State, is_over}
 use Rattle.plan_machine.specs.Places.{at_take}

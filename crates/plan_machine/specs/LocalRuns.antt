@@ -1,16 +1,16 @@
 -- Local runs: steps that an edge makes by itself, one after another.
 use Rattle.std.specs.Prelude.{◌≡◌, ◌==◌, ℕ, zero, suc, Bool, true, false, not, ◌&&◌, List, [], ◌∷◌, ◌++◌, Some, slice_get, slice_set}
-use Rattle.plan_image.specs.declared.instr.Instr.{Instr}
-use Rattle.plan_image.specs.declared.instr.Instr.TheVariants as op
+use Rattle.plan_image.specs.declared.body.Instr.{Instr}
+use Rattle.plan_image.specs.declared.body.Instr.TheVariants as op
 use Rattle.plan_image.specs.declared.image.Parts.{Parts}
 use Rattle.plan_verify.specs.Turn.{Slots, Local, turn}
 use Rattle.plan_machine.specs.declared.event.Event.{Event}
 use Rattle.plan_machine.specs.declared.event.Event.TheVariants.{Step}
-use Rattle.plan_machine.specs.declared.event.mark.Mark.{Mark}
-use Rattle.plan_machine.specs.declared.event.mark.Mark.TheVariants as mark
-use Rattle.plan_machine.specs.declared.run.local_run.LocalRun.{LocalRun}
-use Rattle.plan_machine.specs.declared.edge.turned.Turned.{Turned}
-use Rattle.plan_machine.specs.declared.edge.turned.Turned.TheVariants as turned
+use Rattle.plan_machine.specs.declared.event.Mark.{Mark}
+use Rattle.plan_machine.specs.declared.event.Mark.TheVariants as mark
+use Rattle.plan_machine.specs.declared.run.local_runs.LocalRun.{LocalRun}
+use Rattle.plan_machine.specs.declared.edge.turns.Turned.{Turned}
+use Rattle.plan_machine.specs.declared.edge.turns.Turned.TheVariants as turned
 use Rattle.plan_machine.specs.Applying.{CanTurn}
 use Rattle.plan_machine.specs.State.{Status, Active}
 use Rattle.plan_machine.specs.RunState.{RunState}

@@ -5,7 +5,7 @@ use Rattle.plan_verify.specs.Turn.{Flaw, Meaning}
 use Rattle.plan_verify.specs.WellShaped.{IsWellShaped}
 use Rattle.plan_machine.specs.Limits.{Limits}
 use Rattle.plan_machine.specs.declared.event.Event.{Event}
-use Rattle.plan_machine.specs.declared.event.mark.Mark.{Mark}
+use Rattle.plan_machine.specs.declared.event.Mark.{Mark}
 use Rattle.plan_machine.specs.State.{State}
 use Rattle.plan_machine.specs.Step.{Wrong, step}
 use Rattle.plan_machine.specs.Runs.{Reached}

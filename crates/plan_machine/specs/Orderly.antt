@@ -9,8 +9,8 @@ use Rattle.plan_verify.specs.Turn.{Meaning}
 use Rattle.plan_verify.specs.WellShaped.{IsWellShaped}
 use Rattle.plan_machine.specs.Limits.{Limits}
 use Rattle.plan_machine.specs.declared.event.Event.{Event}
-use Rattle.plan_machine.specs.declared.event.mark.Mark.{Mark}
-use Rattle.plan_machine.specs.declared.event.mark.Mark.TheVariants.{Started, Took, Released, Ended, Failed}
+use Rattle.plan_machine.specs.declared.event.Mark.{Mark}
+use Rattle.plan_machine.specs.declared.event.Mark.TheVariants.{Started, Took, Released, Ended, Failed}
 use Rattle.plan_machine.specs.State.{State}
 use Rattle.plan_machine.specs.Places.{is_pool}
 use Rattle.plan_machine.specs.Runs.{Reached}

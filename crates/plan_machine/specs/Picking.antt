@@ -5,7 +5,7 @@ use Rattle.plan_schedule.specs.declared.schedule.picking.Pick.{Pick}
 use Rattle.plan_schedule.specs.declared.schedule.picking.Pick.TheVariants as pick
 use Rattle.plan_machine.specs.declared.event.Event.{Event}
 use Rattle.plan_machine.specs.declared.event.Event.TheVariants.{Start, Skip, Stop, Step}
-use Rattle.plan_machine.specs.declared.event.mark.Mark.{Mark}
+use Rattle.plan_machine.specs.declared.event.Mark.{Mark}
 use Rattle.plan_machine.specs.State.{State}
 use Rattle.plan_machine.specs.RunState.{RunState}
 use Rattle.plan_machine.specs.Step.{Next, step}

@@ -1,8 +1,8 @@
 -- Job tokens: one for each job and, in a pool, one for each of its depth. An edge holds one from Take to
 -- Release.
 use Rattle.std.specs.Prelude.{ℕ, ◌+◌, Bool, true, false, not, ◌||◌, ◌&&◌, List, [], ◌∷◌, Option, Some, None, nat_lt, nat_le, ◌==◌, if◌then◌else◌, slice_get, count_by}
-use Rattle.plan_image.specs.declared.instr.Instr.{Instr}
-use Rattle.plan_image.specs.declared.instr.Instr.TheVariants.{Take}
+use Rattle.plan_image.specs.declared.body.Instr.{Instr}
+use Rattle.plan_image.specs.declared.body.Instr.TheVariants.{Take}
 use Rattle.plan_image.specs.declared.image.Pool.{Pool}
 use Rattle.plan_image.specs.declared.image.Parts.{Parts}
 use Rattle.plan_image.specs.Code.{code}

@@ -1,18 +1,18 @@
 -- The question of an edge that awaits a reply, and the question that an event would ask.
 use Rattle.std.specs.Prelude.{◌≡◌, ℕ, Bool, true, false, List, Option, Some, None, if◌then◌else◌, slice_get}
-use Rattle.plan_image.specs.declared.instr.Instr.{Instr}
-use Rattle.plan_image.specs.declared.instr.Instr.TheVariants as op
+use Rattle.plan_image.specs.declared.body.Instr.{Instr}
+use Rattle.plan_image.specs.declared.body.Instr.TheVariants as op
 use Rattle.plan_image.specs.declared.image.Parts.{Parts}
 use Rattle.plan_verify.specs.declared.value.Value.{Value}
 use Rattle.plan_verify.specs.declared.value.Value.TheVariants.{Stamp, Text, Paths, Swept}
 use Rattle.plan_verify.specs.Turn.{Slots, Request as Question, Stat, Recall, Run, Deps, Keep, question}
 use Rattle.plan_machine.specs.Limits.{Limits}
-use Rattle.plan_machine.specs.declared.event.request.Request.{Request}
-use Rattle.plan_machine.specs.declared.event.request.Request.TheVariants as request
+use Rattle.plan_machine.specs.declared.event.Request.{Request}
+use Rattle.plan_machine.specs.declared.event.Request.TheVariants as request
 use Rattle.plan_machine.specs.declared.event.Event.{Event}
 use Rattle.plan_machine.specs.declared.event.Event.TheVariants.{Step}
 use Rattle.plan_machine.specs.State.{Status, Active, State}
-use Rattle.plan_machine.specs.declared.event.mark.Mark.TheVariants as mark
+use Rattle.plan_machine.specs.declared.event.Mark.TheVariants as mark
 use Rattle.plan_machine.specs.RunState.{RunState}
 use Rattle.plan_machine.specs.Step.{Next, step}
 use Rattle.plan_machine.specs.Depfile.{depfile}

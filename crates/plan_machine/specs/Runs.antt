@@ -5,8 +5,8 @@ use Rattle.plan_verify.specs.declared.value.Value.{Value}
 use Rattle.plan_verify.specs.Turn.{Meaning}
 use Rattle.plan_machine.specs.Limits.{Limits}
 use Rattle.plan_machine.specs.declared.event.Event.{Event}
-use Rattle.plan_machine.specs.declared.event.mark.Mark.{Mark}
-use Rattle.plan_machine.specs.declared.event.mark.Outcome.TheVariants.{NotWanted}
+use Rattle.plan_machine.specs.declared.event.Mark.{Mark}
+use Rattle.plan_machine.specs.declared.event.Outcome.TheVariants.{NotWanted}
 use Rattle.plan_machine.specs.State.{Status, Unbegun, Over, State}
 use Rattle.plan_machine.specs.Step.{Next, step}
 use Rattle.plan_machine.specs.Wanted.{AreWanted}

@@ -6,8 +6,8 @@ use Rattle.plan_verify.specs.declared.value.Value.TheVariants.{Stamp, Flag, Text
 use Rattle.plan_verify.specs.declared.value.Cause.{Cause}
 use Rattle.plan_verify.specs.declared.value.Cause.TheVariants as cause
 use Rattle.plan_verify.specs.Turn.{Slots}
-use Rattle.plan_machine.specs.declared.event.mark.Outcome.{Outcome}
-use Rattle.plan_machine.specs.declared.event.mark.Outcome.TheVariants.{Clean, Ran, Failed, Skipped, Stopped, NotWanted}
+use Rattle.plan_machine.specs.declared.event.Outcome.{Outcome}
+use Rattle.plan_machine.specs.declared.event.Outcome.TheVariants.{Clean, Ran, Failed, Skipped, Stopped, NotWanted}
 use Rattle.plan_machine.specs.State.{Status, State, has_ended, outcome_at}
 use Rattle.plan_machine.specs.Agreement.{EndAlike}
 

@@ -2,8 +2,8 @@
 use Rattle.std.specs.Prelude.{Option, Some, None}
 use Rattle.plan_verify.specs.declared.value.Value.{Value}
 use Rattle.plan_verify.specs.declared.value.Value.TheVariants.{Stamp, Flag, Text, Paths, Swept}
-use Rattle.plan_machine.specs.declared.edge.slot.Stored.{Stored}
-use Rattle.plan_machine.specs.declared.edge.slot.Stored.TheVariants as stored
+use Rattle.plan_machine.specs.declared.edge.stack.Stored.{Stored}
+use Rattle.plan_machine.specs.declared.edge.stack.Stored.TheVariants as stored
 
 abbrev pub value_of : Stored → Option Value
 value_of stored.Unset = None

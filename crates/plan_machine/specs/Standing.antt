@@ -1,13 +1,13 @@
 -- The invariant of every state that a run of a well-shaped image reaches.
 use Rattle.std.specs.Prelude.{◌≡◌, ℕ, true, List, length, Some, slice_get}
 use Rattle.plan_image.specs.declared.image.Parts.{Parts}
-use Rattle.plan_verify.specs.declared.shape.Shape.{Shape}
+use Rattle.plan_verify.specs.declared.kinds.Shape.{Shape}
 use Rattle.plan_verify.specs.Tables.{waits_of}
 use Rattle.plan_verify.specs.Members.{is_member}
 use Rattle.plan_verify.specs.Turn.{Local}
 use Rattle.plan_verify.specs.WellShaped.{AreAllShapes}
 use Rattle.plan_verify.specs.Sound.{AreTyped, AreOwnSet, IsTyped}
-use Rattle.plan_machine.specs.declared.event.mark.Outcome.TheVariants.{NotWanted}
+use Rattle.plan_machine.specs.declared.event.Outcome.TheVariants.{NotWanted}
 use Rattle.plan_machine.specs.State.{Unbegun, Active, Over, State, has_succeeded, stands}
 
 -- an edge has begun: it is as the shape at its place describes, and all edges that it waits for succeeded

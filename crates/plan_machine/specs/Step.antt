@@ -11,10 +11,10 @@ use Rattle.plan_machine.specs.declared.event.reply.Reply.{Reply}
 use Rattle.plan_machine.specs.declared.event.reply.Reply.TheVariants as reply
 use Rattle.plan_machine.specs.declared.event.Event.{Event}
 use Rattle.plan_machine.specs.declared.event.Event.TheVariants.{Start, Skip, Stop, Step, Reply as Hear}
-use Rattle.plan_machine.specs.declared.event.mark.Mark.{Mark}
-use Rattle.plan_machine.specs.declared.event.mark.Mark.TheVariants as mark
-use Rattle.plan_machine.specs.declared.event.mark.Outcome.{Outcome}
-use Rattle.plan_machine.specs.declared.event.mark.Outcome.TheVariants.{Clean, Ran, Failed, Skipped, Stopped}
+use Rattle.plan_machine.specs.declared.event.Mark.{Mark}
+use Rattle.plan_machine.specs.declared.event.Mark.TheVariants as mark
+use Rattle.plan_machine.specs.declared.event.Outcome.{Outcome}
+use Rattle.plan_machine.specs.declared.event.Outcome.TheVariants.{Clean, Ran, Failed, Skipped, Stopped}
 use Rattle.plan_machine.specs.State.{Status, Unbegun, Active, Over, State, has_succeeded, is_unsuccessful, stands, with_status}
 use Rattle.plan_machine.specs.Places.{is_spent, is_free, at_take}
 

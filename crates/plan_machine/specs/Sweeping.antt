@@ -1,6 +1,6 @@
 -- A sweep that goes on: stamps of its paths are received, and after each the next path is asked for at once.
 use Rattle.std.specs.Prelude.{◌≡◌, ℕ, ◌+◌, ◌<◌, ◌≤◌, true, [], List, ◌∷◌, ◌++◌, length, Some, slice_get}
-use Rattle.plan_image.specs.declared.instr.Instr.TheVariants as op
+use Rattle.plan_image.specs.declared.body.Instr.TheVariants as op
 use Rattle.plan_image.specs.declared.image.Parts.{Parts}
 use Rattle.plan_image.specs.Code.{code}
 use Rattle.plan_verify.specs.declared.value.Value.{Value}
@@ -9,9 +9,9 @@ use Rattle.plan_verify.specs.Turn.{Slots, Local, Moved, Goes, Stat, StampIs, hea
 use Rattle.plan_machine.specs.declared.event.Event.{Event}
 use Rattle.plan_machine.specs.declared.event.Event.TheVariants.{Step, Reply as Hear}
 use Rattle.plan_machine.specs.declared.event.reply.Reply.TheVariants as reply
-use Rattle.plan_machine.specs.declared.event.mark.Mark.{Mark}
-use Rattle.plan_machine.specs.declared.event.mark.Mark.TheVariants as mark
-use Rattle.plan_machine.specs.declared.edge.turned.Turned.TheVariants as turned
+use Rattle.plan_machine.specs.declared.event.Mark.{Mark}
+use Rattle.plan_machine.specs.declared.event.Mark.TheVariants as mark
+use Rattle.plan_machine.specs.declared.edge.turns.Turned.TheVariants as turned
 use Rattle.plan_machine.specs.Depfile.{depfile}
 use Rattle.plan_machine.specs.RunState.{RunState}
 use Rattle.plan_machine.specs.Replaying.{RunsTo}

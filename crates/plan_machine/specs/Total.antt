@@ -4,7 +4,7 @@ use Rattle.plan_image.specs.declared.image.Sort.{Sort}
 use Rattle.plan_image.specs.declared.image.Sort.TheVariants as sort
 use Rattle.plan_image.specs.declared.image.Edge.{Edge}
 use Rattle.plan_image.specs.declared.image.Parts.{Parts}
-use Rattle.plan_machine.specs.declared.event.mark.Outcome.TheVariants.{NotWanted}
+use Rattle.plan_machine.specs.declared.event.Outcome.TheVariants.{NotWanted}
 use Rattle.plan_machine.specs.State.{Status, Over, State, stands}
 
 abbrev pub is_command : Sort → Bool

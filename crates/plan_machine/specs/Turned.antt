@@ -1,8 +1,8 @@
 -- The turn that the code made, by its result and the edge after it.
 use Rattle.std.specs.Prelude.{◌≡◌, ℕ, Some, slice_set}
 use Rattle.plan_verify.specs.declared.value.Value.{Value}
-use Rattle.plan_machine.specs.declared.edge.turned.Turned.{Turned}
-use Rattle.plan_machine.specs.declared.edge.turned.Turned.TheVariants as turned
+use Rattle.plan_machine.specs.declared.edge.turns.Turned.{Turned}
+use Rattle.plan_machine.specs.declared.edge.turns.Turned.TheVariants as turned
 use Rattle.plan_verify.specs.Turn.{Slots, Local, Request, Turn, Goes, Sets, Moved, Took, Released, Asks, Ends, Fails}
 use Rattle.plan_verify.specs.Sound.{asking}
 

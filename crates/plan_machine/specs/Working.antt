@@ -1,7 +1,7 @@
 -- The conditions that the code of a step relies on.
 use Rattle.std.specs.Prelude.{List, ◌∷◌, length, ◌≤◌, ◌<◌, Option, Some, None}
-use Rattle.plan_image.specs.declared.instr.Instr.{Instr}
-use Rattle.plan_image.specs.declared.instr.Instr.TheVariants as op
+use Rattle.plan_image.specs.declared.body.Instr.{Instr}
+use Rattle.plan_image.specs.declared.body.Instr.TheVariants as op
 use Rattle.plan_verify.specs.declared.value.Value.{Value}
 use Rattle.plan_verify.specs.declared.value.Value.TheVariants.{Stamp, Flag, Text, Paths}
 use Rattle.plan_verify.specs.Turn.{Calculated, On, TooLong, Off, Turn, Wrong}

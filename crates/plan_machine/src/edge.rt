@@ -3,12 +3,8 @@
 pub(crate) mod active_edge;
 pub(crate) mod asking;
 pub(crate) mod local_steps;
-pub(crate) mod parked;
 pub(crate) mod replies;
-pub(crate) mod slot;
 pub(crate) mod stack;
 pub(crate) mod status;
 pub(crate) mod swept_row;
-pub(crate) mod tables;
-pub(crate) mod turned;
 pub(crate) mod turns;

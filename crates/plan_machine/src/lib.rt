@@ -22,18 +22,15 @@ mod event;
 mod laws;
 mod run;
 
-pub use event::Event;
-pub use event::mark::{Mark, Outcome};
 pub use event::reply::{Depfile, Recorded, Reply};
-pub use event::request::{Outputs, Request};
+pub use event::{Event, Mark, Outcome, Outputs, Request};
 pub use laws::{
     depfiles_are_frugal, each_ran_by_itself, interleavings_agree, marks_are_orderly, never_stuck,
     never_wrong, slots_stay, stays_in_budget,
 };
 pub use plan_verify::Cause;
 pub use run::ends::same_end;
-pub use run::local_run::LocalRun;
-pub use run::options::Options;
+pub use run::local_runs::LocalRun;
 pub use run::refused::Refused;
 pub use run::replaying::replay;
-pub use run::state::State;
+pub use run::state::{Options, State};

@@ -1,11 +1,8 @@
 //! A run: the states of all edges, the schedule, and the events that can happen next.
 
 pub(crate) mod ends;
-pub(crate) mod image_plan;
-pub(crate) mod local_run;
 pub(crate) mod local_runs;
 pub(crate) mod machine;
-pub(crate) mod options;
 pub(crate) mod picking;
 pub(crate) mod refused;
 pub(crate) mod replaying;

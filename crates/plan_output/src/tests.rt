@@ -1,6 +1,6 @@
 //! Outputs of commands, and how they are shown.
 
-use crate::shown_output;
+use crate::{shown_output, signal_line};
 use std::test::Fail;
 
 /// An output is shown in whole lines, and without escape sequences if they aren't wanted.
@@ -37,6 +37,20 @@ fn shown_outputs(rt: HostRuntime) -> Result<(), Fail> {
     ] {
         let output = shown_output(alloc, Vec::from_slice(alloc, text)?, escapes)?;
         assert_eq!(rt; output.as_slice(), shown);
+    }
+    Ok(())
+}
+
+/// Signals have the names of signal(7), and a number beyond them has none.
+#[test]
+fn signals_have_names(rt: HostRuntime) -> Result<(), Fail> {
+    for (signal, line) in [
+        (2, b"ended by SIGINT\n".as_slice()),
+        (9, b"ended by SIGKILL\n".as_slice()),
+        (11, b"ended by SIGSEGV\n".as_slice()),
+        (34, b"ended by a signal\n".as_slice()),
+    ] {
+        assert_eq!(rt; signal_line(signal), line);
     }
     Ok(())
 }

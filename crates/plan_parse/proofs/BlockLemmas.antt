@@ -7,7 +7,7 @@ use Rattle.plan_text.specs.Outcome.{◌>>=◌, each}
 use Rattle.plan_parse.specs.declared.block.BlockLine as the_line
 use Rattle.plan_parse.specs.BlockLines.{block_line_of, block_lines_of}
 use Rattle.plan_parse.specs.declared.fault.ParseFault.{ParseFault}
-use Rattle.plan_parse.specs.declared.block_kind.BlockKind.{BlockKind}
+use Rattle.plan_parse.specs.declared.block.BlockKind.{BlockKind}
 use Rattle.plan_parse.specs.declared.statement.Binding.{Binding}
 use Rattle.plan_parse.specs.Blocks.{BlockLine}
 use Rattle.plan_parse.specs.Statements.{block_variable_at, block_variables_at}

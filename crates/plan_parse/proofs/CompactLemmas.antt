@@ -9,7 +9,7 @@ use Rattle.plan_text.specs.Outcome.{◌>>=◌}
 use Rattle.plan_text.specs.declared.piece_reader.Piece.{Piece}
 use Rattle.plan_parse.specs.declared.fault.ParseFault.{ParseFault}
 use Rattle.plan_parse.specs.declared.fault.ParseFault.TheVariants as fault
-use Rattle.plan_parse.specs.declared.span.Span.{Span}
+use Rattle.plan_parse.specs.declared.compact.Span.{Span}
 use Rattle.plan_parse.specs.declared.statement.Binding.{Binding}
 use Rattle.plan_parse.specs.declared.compact.CompactPath.TheVariants as path
 use Rattle.plan_parse.specs.declared.compact.CompactValue.{CompactValue}

@@ -17,8 +17,8 @@ use Rattle.plan_text.specs.declared.piece_reader.Mode.TheVariants as mode
 use Rattle.plan_text.specs.declared.piece_reader.Piece.{Piece}
 use Rattle.plan_parse.specs.declared.fault.ParseFault.{ParseFault}
 use Rattle.plan_parse.specs.declared.fault.ParseFault.TheVariants as fault
-use Rattle.plan_parse.specs.declared.block_kind.BlockKind.{BlockKind}
-use Rattle.plan_parse.specs.declared.block_kind.BlockKind.TheVariants.{Rule, Pool}
+use Rattle.plan_parse.specs.declared.block.BlockKind.{BlockKind}
+use Rattle.plan_parse.specs.declared.block.BlockKind.TheVariants.{Rule, Pool}
 use Rattle.plan_parse.specs.declared.statement.Binding.{Binding}
 use Rattle.plan_parse.specs.Kinds as kind
 use Rattle.plan_parse.specs.Kinds.{Statement}

@@ -4,8 +4,8 @@ use Rattle.plan_text.specs.Outcome.{each}
 use Rattle.plan_text.specs.declared.piece_reader.Piece.{Piece}
 use Rattle.std.proofs.lemmas.List.{take_all, take-append-drop, take-append-le, length-append, append_assoc, append-nil}
 use Rattle.std.proofs.Math.Seq.{drop-append_seam}
-use Rattle.plan_parse.specs.declared.path_lists.PathLists.{PathLists}
-use Rattle.plan_parse.specs.declared.path_lists.PathPlaces.{PathPlaces}
+use Rattle.plan_parse.specs.declared.compact.PathLists.{PathLists}
+use Rattle.plan_parse.specs.declared.compact.PathPlaces.{PathPlaces}
 use Rattle.plan_parse.specs.declared.statement.Binding.{Binding}
 use Rattle.plan_parse.specs.PathLists.{Extends, added_to, between, lists_at}
 use Rattle.plan_parse.specs.Kinds.{Statement}

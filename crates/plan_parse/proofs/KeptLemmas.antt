@@ -8,7 +8,7 @@ use Rattle.plan_parse.specs.declared.compact.CompactBinding.{CompactBinding}
 use Rattle.plan_parse.specs.declared.compact.CompactPath.{CompactPath}
 use Rattle.plan_parse.specs.declared.compact.CompactStatement.{CompactStatement}
 use Rattle.plan_parse.specs.declared.compact.CompactStatement.TheVariants as kept
-use Rattle.plan_parse.specs.declared.path_lists.PathLists.{PathLists}
+use Rattle.plan_parse.specs.declared.compact.PathLists.{PathLists}
 use Rattle.plan_parse.specs.PathLists.{added_to, between, lists_at, map_lists}
 use Rattle.plan_parse.specs.Kinds.{Statement}
 use Rattle.plan_parse.specs.Kinds as kind

@@ -15,7 +15,7 @@ use Rattle.plan_text.specs.declared.piece_reader.Piece.{Piece}
 use Rattle.std.specs.Prelude.{nat_lt}
 use Rattle.plan_parse.specs.declared.fault.ParseFault.{ParseFault}
 use Rattle.plan_parse.specs.declared.fault.ParseFault.TheVariants as fault
-use Rattle.plan_parse.specs.declared.block_kind.BlockKind.TheVariants.{Rule, Pool}
+use Rattle.plan_parse.specs.declared.block.BlockKind.TheVariants.{Rule, Pool}
 use Rattle.plan_parse.specs.declared.statement.Binding.{Binding}
 use Rattle.plan_parse.specs.Kinds.{Statement}
 use Rattle.plan_parse.specs.Kinds as kind

@@ -4,7 +4,7 @@ use Rattle.plan_text.specs.Pieces.{literal_of, pieces_from}
 use Rattle.plan_text.specs.declared.piece_reader.Mode.TheVariants as mode
 use Rattle.plan_text.specs.declared.piece_reader.Piece.{Piece}
 use Rattle.plan_parse.specs.declared.fault.ParseFault.{ParseFault}
-use Rattle.plan_parse.specs.declared.span.Span.{Span}
+use Rattle.plan_parse.specs.declared.compact.Span.{Span}
 use Rattle.plan_parse.specs.declared.statement.Binding.{Binding}
 use Rattle.plan_parse.specs.declared.statement.Directive.{Directive}
 use Rattle.plan_parse.specs.declared.statement.DirectiveKind.{DirectiveKind}

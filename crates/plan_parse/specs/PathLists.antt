@@ -1,7 +1,7 @@
 -- The five lists of paths of a build line.
 use Rattle.std.specs.Prelude.{◌≡◌, ℕ, List, ◌++◌, length, take, drop}
-use Rattle.plan_parse.specs.declared.path_lists.PathLists.{PathLists}
-use Rattle.plan_parse.specs.declared.path_lists.PathPlaces.{PathPlaces}
+use Rattle.plan_parse.specs.declared.compact.PathLists.{PathLists}
+use Rattle.plan_parse.specs.declared.compact.PathPlaces.{PathPlaces}
 
 -- applies a function to each list
 abbrev pub map_lists : {A B : Type 0} → (A → B) → PathLists A → PathLists B

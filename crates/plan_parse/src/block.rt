@@ -1,4 +1,4 @@
-//! Blocks: a line, and the indented lines below it.
+//! Blocks: a line, and the indented lines below it with the variables that they bind.
 
 ghost use Rattle.std.specs.Prelude.{◌≡◌, ◌==◌, ◌+◌, ◌<◌, ◌≤◌, ◌^◌, IfOk, List, [], OnOk, length, map};
 ghost use Rattle.std.specs.List.{prefix_len, list_any};
@@ -11,12 +11,11 @@ ghost use Rattle.plan_parse.specs.Compact.{variable_in};
 ghost use Rattle.plan_parse.specs.PathLists.{Extends, between};
 ghost use Rattle.plan_parse.specs.Progress.{LineStandsIn, LinesStandIn};
 ghost use Rattle.plan_parse.specs.BlockLines.{block_line_of, block_lines_of, line_role_if_any};
+ghost use Rattle.std.specs.Str.{bytes_eq};
 
-use crate::block_kind::BlockKind;
-use crate::compact::CompactBinding;
+use crate::compact::{CompactBinding, ListPlace};
 use crate::cursor::Cursor;
 use crate::fault::ParseFault;
-use crate::path_lists::ListPlace;
 use crate::reading::{
     binding_at, compact_binding_at, count_of, name_at, name_of, past, past_gap, refusal,
 };
@@ -227,4 +226,75 @@ pub fn has_required(block: BlockKind, at: usize, lines: &[BlockLine<'_>]) -> Res
         }
     }
     Err(block.missing_or_repeated(at as u64))
+}
+
+/// A kind of block that only allows certain variables.
+#[derive(Clone, Copy)]
+pub enum BlockKind {
+    /// A rule. It may bind many variables, and must bind `command` once.
+    Rule,
+    /// A pool. It must bind `depth` once, and nothing else.
+    Pool,
+}
+
+/// Returns whether a rule may bind this name.
+fn is_rule_variable(name: &[u8]) -> bool
+    ensures { result ≡ list_any (bytes_eq name.now) statements.rule_variables }
+{
+    name == b"command".as_slice()
+        || name == b"depfile".as_slice()
+        || name == b"deps".as_slice()
+        || name == b"msvc_deps_prefix".as_slice()
+        || name == b"description".as_slice()
+        || name == b"dyndep".as_slice()
+        || name == b"generator".as_slice()
+        || name == b"in".as_slice()
+        || name == b"in_newline".as_slice()
+        || name == b"out".as_slice()
+        || name == b"restat".as_slice()
+        || name == b"rspfile".as_slice()
+        || name == b"rspfile_content".as_slice()
+        || name == b"pool".as_slice()
+}
+
+impl BlockKind {
+    /// Returns whether the block may bind this name.
+    pub fn may_bind(self, name: &[u8]) -> bool
+        ensures { result ≡ statements.may_bind self name.now }
+    {
+        match self {
+            BlockKind::Rule => is_rule_variable(name),
+            BlockKind::Pool => name == b"depth".as_slice(),
+        }
+    }
+
+    /// Returns the name that the block must bind exactly once.
+    pub fn required_name(self) -> &'static [u8]
+        ensures { result.now ≡ statements.required_name self }
+    {
+        match self {
+            BlockKind::Rule => b"command".as_slice(),
+            BlockKind::Pool => b"depth".as_slice(),
+        }
+    }
+
+    /// Returns the fault of a name that the block may not bind.
+    pub fn unknown_variable(self, at: u64) -> ParseFault
+        ensures { result ≡ statements.unknown_variable self at }
+    {
+        match self {
+            BlockKind::Rule => ParseFault::UnknownRuleVariable(at),
+            BlockKind::Pool => ParseFault::BadPool(at),
+        }
+    }
+
+    /// Returns the fault of the required name if it is missing or repeated.
+    pub fn missing_or_repeated(self, at: u64) -> ParseFault
+        ensures { result ≡ statements.missing_or_repeated self at }
+    {
+        match self {
+            BlockKind::Rule => ParseFault::NoCommand(at),
+            BlockKind::Pool => ParseFault::BadPool(at),
+        }
+    }
 }

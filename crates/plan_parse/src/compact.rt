@@ -1,12 +1,11 @@
-//! Compact statements, which refer to their text by places.
+//! Compact statements, which refer to their text by places, and the lists of paths of a build line.
 
-ghost use Rattle.std.specs.Prelude.{◌≡◌, ℕ, List, []};
+ghost use Rattle.std.specs.Prelude.{◌≡◌, ℕ, List, [], IfOk};
 ghost use Rattle.plan_parse.specs.Compact.{build_at, said_in};
+ghost use Rattle.plan_parse.specs.PathLists.{between};
 
-use crate::path_lists::{ListPlace, PathPlaces};
-use crate::span::Span;
 use crate::statement::Directive;
-use std::alloc::Global;
+use std::alloc::{AllocError, Global};
 
 /// A path that is stored by its place in the text.
 #[derive(Clone, Copy, Debug, Drop)]
@@ -143,4 +142,92 @@ pub struct ParsedFile {
     pub statements: Vec<CompactStatement>,
     /// Its build lines, with their paths and variables.
     pub lists: BuildLists,
+}
+
+/// One value for each list of paths of a build line, such as the paths themselves.
+#[derive(Debug, Drop)]
+pub struct PathLists<T> {
+    /// The value for the explicit outputs.
+    pub outputs: T,
+    /// The value for the implicit outputs, after `|`.
+    pub implicit_outputs: T,
+    /// The value for the explicit inputs.
+    pub inputs: T,
+    /// The value for the implicit inputs, after `|`.
+    pub implicit_inputs: T,
+    /// The value for the order-only inputs, after `||`.
+    pub order_only_inputs: T,
+}
+
+/// The range of a list in a longer one.
+#[derive(Clone, Copy, Debug, Drop)]
+pub struct ListPlace {
+    /// The index of its first item.
+    pub start: u32,
+    /// The index after its last item.
+    pub end: u32,
+}
+
+/// The ranges of the five lists of paths of a build line among the paths of its file. The lists are
+/// consecutive, in this order.
+#[derive(Clone, Copy, Debug, Drop)]
+pub struct PathPlaces {
+    /// The index of the first path.
+    pub start: u32,
+    /// The end of the explicit outputs: the index after the last one.
+    pub outputs: u32,
+    /// The end of the implicit outputs.
+    pub implicit_outputs: u32,
+    /// The end of the explicit inputs.
+    pub inputs: u32,
+    /// The end of the implicit inputs.
+    pub implicit_inputs: u32,
+    /// The end of the order-only inputs.
+    pub order_only_inputs: u32,
+}
+
+/// Returns the items from `start` up to `end`. If the list is shorter, the range ends with it.
+pub fn between<T>(items: &[T], start: u32, end: u32) -> &[T]
+    ensures { result.now ≡ between start end items.now }
+{
+    let front = match items.get(..end as usize) {
+        Some(front) => front,
+        None => items,
+    };
+    match front.get(start as usize..) {
+        Some(rest) => rest,
+        None => &[],
+    }
+}
+
+/// The place of a line or a path in its text. Any text that is read is short enough for these numbers.
+#[derive(Clone, Copy, Debug, Drop)]
+pub struct Span {
+    /// The offset of its first byte.
+    pub at: u32,
+    /// The number of its bytes.
+    pub len: u32,
+}
+
+impl Span {
+    /// Creates the place of `len` bytes at offset `at`. Fails if a number doesn't fit, which doesn't happen in
+    /// texts that are read.
+    pub(crate) fn new(at: usize, len: usize) -> Result<Span, AllocError>
+        ensures { IfOk result (λ span. (span.at ≡ at) × (span.len ≡ len)) }
+    {
+        match (u32::try_from(at), u32::try_from(len)) {
+            (Ok(at), Ok(len)) => Ok(Span { at, len }),
+            _ => Err(AllocError),
+        }
+    }
+}
+
+/// Converts a count of bytes or items to 32 bits. Fails as if memory had run out if it doesn't fit.
+pub fn number_of(count: usize) -> Result<u32, AllocError>
+    ensures { IfOk result (λ number. number ≡ count) }
+{
+    match u32::try_from(count) {
+        Ok(number) => Ok(number),
+        Err(_) => Err(AllocError),
+    }
 }

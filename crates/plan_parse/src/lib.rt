@@ -8,22 +8,20 @@
 #![tactic(auto)]
 
 mod block;
-mod block_kind;
 mod compact;
 mod cursor;
 mod fault;
 mod laws;
 mod lines;
 mod parser;
-mod path_lists;
 mod path_parts;
 mod reading;
-mod span;
 mod statement;
 mod statement_reader;
 
 pub use compact::{
-    BuildLists, CompactBinding, CompactPath, CompactStatement, CompactValue, ParsedFile,
+    BuildLists, CompactBinding, CompactPath, CompactStatement, CompactValue, ParsedFile, PathLists,
+    Span,
 };
 pub use fault::ParseFault;
 pub use laws::{faults_have_places, statements_are_whole, statements_join};
@@ -32,7 +30,5 @@ pub use lines::{
     name_in, path_in, value_in,
 };
 pub use parser::parse;
-pub use path_lists::PathLists;
 pub use path_parts::{PathPart, part_at};
-pub use span::Span;
 pub use statement::{Binding, Directive, DirectiveKind, Pool, Rule};

@@ -7,12 +7,12 @@ ghost use Rattle.plan_parse.specs.Views.{place_of};
 ghost use Rattle.plan_parse.specs.PathLists.{between, map_lists};
 ghost use Rattle.plan_parse.specs.Lines.{IsPlaced, bindings_in, paths_in, pieces_of, value_of};
 
-use crate::compact::{BuildLists, CompactBinding, CompactBuild, CompactPath, CompactValue};
+use crate::compact::{
+    BuildLists, CompactBinding, CompactBuild, CompactPath, CompactValue, PathLists, Span, between,
+};
 use crate::cursor::Cursor;
 use crate::fault::ParseFault;
-use crate::path_lists::{PathLists, between};
 use crate::reading::{binding_at, line_in, value_at};
-use crate::span::Span;
 use crate::statement::Binding;
 use plan_text::{PieceList, SmallText};
 use std::alloc::{AllocError, Global};

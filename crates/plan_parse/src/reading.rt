@@ -13,11 +13,10 @@ ghost use Rattle.plan_parse.specs.PlainPaths.{is_plain};
 ghost use Rattle.plan_parse.specs.Statements as statements;
 ghost use Rattle.plan_parse.specs.Views.{place_of};
 
-use crate::compact::{CompactBinding, CompactPath, CompactValue};
+use crate::compact::{CompactBinding, CompactPath, CompactValue, Span, number_of};
 use crate::cursor::Cursor;
 use crate::fault::ParseFault;
 use crate::path_parts::checked_len;
-use crate::span::{Span, number_of};
 use crate::statement::Binding;
 use memchr::memchr2;
 use plan_text::{

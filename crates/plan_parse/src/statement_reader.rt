@@ -11,17 +11,16 @@ ghost use Rattle.plan_parse.specs.BlockLines.{block_lines_of};
 ghost use Rattle.plan_parse.specs.Compact.{BuildLasts, Follows, Lasts, StandsIn, binding_in, built_in, directive_said, said_in};
 ghost use Rattle.plan_parse.specs.Progress.{LinesStandIn};
 
-use crate::block::{BlockLine, bindings_at, block_variables_at, has_required, no_block_allowed};
-use crate::block_kind::BlockKind;
-use crate::compact::{BuildLists, CompactBuild, CompactStatement};
+use crate::block::{
+    BlockKind, BlockLine, bindings_at, block_variables_at, has_required, no_block_allowed,
+};
+use crate::compact::{BuildLists, CompactBuild, CompactStatement, PathPlaces, Span, number_of};
 use crate::cursor::Cursor;
 use crate::fault::ParseFault;
-use crate::path_lists::PathPlaces;
 use crate::reading::{
     compact_binding_at, count_of, file_at, inputs_at, line_end_at, name_at, name_of, outputs_at,
     past, past_gap, targets_at,
 };
-use crate::span::{Span, number_of};
 use crate::statement::{Binding, Directive, DirectiveKind, Pool, Rule};
 use plan_text::{Items, PieceList, SmallText};
 use std::alloc::Global;

@@ -2,7 +2,7 @@
 use Rattle.std.proofs.Common.{◌≡◌, ℕ, Bool, false, List, [], ◌∷◌, ◌++◌, Option, refl, sym, ap, ◌∙◌, append_assoc}
 use Rattle.std.proofs.lemmas.List.{append-nil, map-append}
 use Rattle.plan_image.specs.declared.image.Parts.{Parts}
-use Rattle.plan_machine.specs.declared.event.mark.Mark.{Mark}
+use Rattle.plan_machine.specs.declared.event.Mark.{Mark}
 use Rattle.plan_status.specs.Outcomes.{or_empty}
 use Rattle.plan_progress.specs.declared.counts.Counts.{Counts}
 use Rattle.plan_progress.specs.declared.display.Display.{Display}

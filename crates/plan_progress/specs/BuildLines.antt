@@ -6,8 +6,8 @@ use Rattle.plan_image.specs.declared.image.Parts.{Parts}
 use Rattle.plan_verify.specs.Tables.{first_output, outputs_of, path_of}
 use Rattle.plan_verify.specs.declared.value.Cause.{Cause}
 use Rattle.plan_verify.specs.declared.value.Cause.TheVariants.{MissingInput, Exit, DepfileMalformed}
-use Rattle.plan_machine.specs.declared.event.mark.Mark.{Mark}
-use Rattle.plan_machine.specs.declared.event.mark.Mark.TheVariants.{Ended, Failed, Took}
+use Rattle.plan_machine.specs.declared.event.Mark.{Mark}
+use Rattle.plan_machine.specs.declared.event.Mark.TheVariants.{Ended, Failed, Took}
 use Rattle.plan_machine.specs.Total.{has_command}
 use Rattle.plan_status.specs.Lines.{label_of, malformed_text, plain_text}
 use Rattle.plan_status.specs.Outcomes.{or_empty}

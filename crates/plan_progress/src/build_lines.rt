@@ -4,7 +4,7 @@ ghost use Rattle.std.specs.Prelude.{◌≡◌, ◌++◌, ◌∷◌, [], ℕ, Lis
 ghost use Rattle.plan_verify.specs.Tables.{first_output};
 ghost use Rattle.plan_status.specs.Outcomes.{or_empty};
 ghost use Rattle.plan_image.specs.declared.image.Parts.{Parts as Tables};
-ghost use Rattle.plan_machine.specs.declared.event.mark.Mark.{Mark as Told};
+ghost use Rattle.plan_machine.specs.declared.event.Mark.{Mark as Told};
 ghost use Rattle.plan_progress.specs.BuildLines as defined;
 
 use crate::counting::{counted, ended, is_end, no_counts};

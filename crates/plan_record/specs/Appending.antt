@@ -1,7 +1,7 @@
 -- The effect on a sink of appending an entry.
 use Rattle.std.specs.Prelude.{◌≡◌, ℕ, ◌+◌, ◌<◌, List, length, take, Option, Result, Ok, Err}
 use Rattle.std.specs.Io.KnownBytes.{Appends}
-use Rattle.plan_record.specs.declared.writing.WriteFault.{WriteFault}
+use Rattle.plan_record.specs.declared.spelling.WriteFault.{WriteFault}
 
 -- An entry with this spelling is appended. The states of the sink before and after are the number of its failed
 -- writes, and the bytes that it took. Either all bytes are taken and no failure is counted, or exactly the

@@ -9,11 +9,10 @@ mod paths;
 mod reading;
 mod record;
 mod spelling;
-mod writing;
 
 pub use entry::Entry;
 pub use fault::EntryFault;
 pub use laws::{compaction_law, entry_law};
 pub use paths::Paths;
 pub use record::{Record, load, read_entries, spellings};
-pub use writing::{WriteFault, append};
+pub use spelling::{WriteFault, append};

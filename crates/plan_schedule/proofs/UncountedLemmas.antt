@@ -6,7 +6,7 @@ use Rattle.plan_schedule.specs.BucketContents.{BucketContents, bucket_len}
 use Rattle.plan_schedule.specs.declared.phase.Phase.{Phase}
 use Rattle.plan_schedule.specs.declared.phase.Phase.TheVariants.{Unbegun, Runnable, AtTake, Waiting, Succeeded, Failed, Abandoned, NotWanted}
 use Rattle.plan_schedule.specs.declared.plan.Plan.{Plan}
-use Rattle.plan_schedule.specs.declared.counting.Counts.{Counts}
+use Rattle.plan_schedule.specs.declared.bucket_rules.Counts.{Counts}
 use Rattle.plan_schedule.specs.declared.schedule.Schedule.{Schedule}
 use Rattle.plan_schedule.specs.Counts.{AreCounts, one}
 use Rattle.plan_schedule.specs.Phases.{AreAlike, has_failed, holds, is_at_take, is_open, phase_at}

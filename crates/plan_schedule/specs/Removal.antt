@@ -1,6 +1,6 @@
 -- The removal of a number from its position.
 use Rattle.std.specs.Prelude.{◌≡◌, ℕ, map, length}
-use Rattle.plan_schedule.specs.declared.buckets.positions.Positions.{Positions}
+use Rattle.plan_schedule.specs.declared.buckets.Positions.{Positions}
 use Rattle.plan_schedule.specs.Positions.{ArePositions, ArePositionsBut}
 
 abbrev pub HasPositions : Positions → Type 0

@@ -1,14 +1,10 @@
-//! Buckets.
+//! Buckets, and the positions of numbers in them.
 
-pub(crate) mod bucket_row;
-pub(crate) mod positions;
-
-ghost use Rattle.std.specs.Prelude.{◌≡◌, ◌≢◌, ◌<◌, ◌≤◌, ℕ, IfOk, IfNone, IfSome, length, map, replicate, slice_index, slice_set};
-ghost use Rattle.plan_schedule.specs.BucketContents.{HasRoom, bucket_len};
+ghost use Rattle.std.specs.Prelude.{◌≡◌, ◌<◌, ℕ, IfOk, length, replicate, slice_index, slice_set, ◌≢◌, ◌+◌, [], map, get_or, ◌≤◌, IfNone, IfSome};
+ghost use Rattle.plan_schedule.specs.BucketContents.{bucket_len, HasRoom};
+ghost use Rattle.plan_schedule.specs.Removal.{Removes, LacksPosition, HasPositions};
 ghost use Rattle.plan_schedule.specs.Positions.{number_at};
 
-use crate::buckets::bucket_row::{BucketRow, ascending};
-use crate::buckets::positions::{Positions, insert, remove};
 use std::alloc::{AllocError, Global};
 use std::marker::Model;
 
@@ -111,4 +107,117 @@ impl Buckets {
             },
         })
     }
+}
+
+/// The positions of a bucket, each with a number.
+#[derive(Drop)]
+pub struct BucketRow {
+    positions: Vec<u32>,
+}
+
+impl Model for BucketRow {
+    ghost use Rattle.std.specs.Prelude.{List, ℕ};
+
+    ghost Value = { List ℕ };
+
+    ghost view = { λ r. r.positions.items };
+}
+
+impl BucketRow {
+    /// Creates a bucket with `len` positions.
+    pub fn new(alloc: Global, len: usize) -> Result<BucketRow, AllocError>
+        ensures { IfOk result (λ r. r ≡ replicate len 0) }
+    {
+        Ok(BucketRow {
+            positions: vec![in alloc; 0; len]?,
+        })
+    }
+
+    /// Returns the number at position `i`.
+    pub fn at(&self, i: u32) -> u32
+        requires { i < length self.now }
+        ensures { result ≡ slice_index self.now i }
+    {
+        self.positions[i as usize]
+    }
+
+    /// Stores a number at position `i`.
+    pub fn set(&mut self, i: u32, number: u32)
+        requires { i < length self.old }
+        ensures { self.new ≡ slice_set self.old i number }
+    {
+        self.positions[i as usize] = number;
+    }
+}
+
+/// Returns the numbers from 0 up to `len`.
+pub fn ascending(alloc: Global, len: u32) -> Result<Vec<u32>, AllocError>
+    ensures len { IfOk result (λ v. length v.items ≡ len) }
+    ensures each { IfOk result (λ v. (i : ℕ) → i < len → slice_index v.items i ≡ i) }
+{
+    let mut numbers = Vec::with_capacity(alloc, len as usize)?;
+    for number in 0..len {
+        numbers.push(number)?;
+    }
+    Ok(numbers)
+}
+
+impl BucketRow {
+    /// Creates a bucket with `len` positions, each of which holds its own index.
+    pub fn of_indices(alloc: Global, len: u32) -> Result<BucketRow, AllocError>
+        ensures len { IfOk result (λ r. length r ≡ len) }
+        ensures each { IfOk result (λ r. (i : ℕ) → i < len → slice_index r i ≡ i) }
+    {
+        Ok(BucketRow {
+            positions: ascending(alloc, len)?,
+        })
+    }
+}
+
+/// The positions of each bucket, and the position of each number.
+#[derive(Drop)]
+pub struct Positions {
+    /// The positions of each bucket, the occupied ones first.
+    pub rows: Vec<BucketRow>,
+    /// The number of occupied positions of each bucket.
+    pub lens: Vec<u32>,
+    /// The position of each number in its bucket.
+    pub places: Vec<u32>,
+    /// The bucket of each number.
+    pub bucket: Vec<u32>,
+}
+
+/// Removes a number from its bucket, and moves the last number of the bucket to its position.
+pub fn remove(positions: &mut Positions, number: u32)
+    requires here { number < length positions.old.bucket.items }
+    requires in_position { HasPositions positions.old }
+    ensures { Removes number positions.old positions.new }
+{
+    let bucket = positions.bucket[number as usize] as usize;
+    let place = positions.places[number as usize];
+    let left = positions.lens[bucket] - 1;
+    let last = positions.rows[bucket].at(left);
+    let row = &mut positions.rows[bucket];
+    row.set(place, last);
+    positions.places[last as usize] = place;
+    positions.lens[bucket] = left;
+}
+
+/// Adds a number, which has no position, at the next position of a bucket.
+pub fn insert(positions: &mut Positions, number: u32, bucket: u32)
+    requires here { number < length positions.old.bucket.items }
+    requires bucket { bucket < length positions.old.rows.items }
+    requires another { slice_index positions.old.bucket.items number ≢ bucket }
+    requires capacity { bucket_len bucket positions.old.bucket.items < length (get_or positions.old.rows.items bucket []) }
+    requires in_position { LacksPosition number positions.old }
+    ensures in_position { HasPositions positions.new }
+    ensures bucket { positions.new.bucket.items ≡ slice_set positions.old.bucket.items number bucket }
+    ensures capacity { map length positions.new.rows.items ≡ map length positions.old.rows.items }
+{
+    let end = positions.lens[bucket as usize];
+    let row = &mut positions.rows[bucket as usize];
+    row.set(end, number);
+    positions.places[number as usize] = end;
+    positions.lens[bucket as usize] = end + 1;
+    positions.bucket[number as usize] = bucket;
 }

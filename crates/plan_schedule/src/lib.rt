@@ -13,16 +13,14 @@
 
 mod bucket_rules;
 mod buckets;
-mod counting;
-mod dependents;
 mod numbers;
 mod opening;
 mod phase;
 mod plan;
 mod schedule;
 
+pub use bucket_rules::Counts;
 pub use buckets::Buckets;
-pub use counting::Counts;
 pub use numbers::Numbers;
 pub use opening::{open, plan_of};
 pub use phase::Phase;

@@ -7,11 +7,9 @@ ghost use Rattle.plan_schedule.specs.BucketRules.{ArePoolBuckets, AreBuckets, ed
 ghost use Rattle.plan_schedule.specs.Phases.{is_open};
 ghost use Rattle.plan_schedule.specs.Opening.{opening_phase, opening_bucket};
 
-use crate::bucket_rules::EdgeBucket;
+use crate::bucket_rules::{Counts, EdgeBucket};
 use crate::buckets::Buckets;
-use crate::counting::Counts;
-use crate::dependents::dependents_of;
-use crate::numbers::Numbers;
+use crate::numbers::{Numbers, dependents_of};
 use crate::phase::Phase;
 use crate::plan::Plan;
 use crate::schedule::Schedule;

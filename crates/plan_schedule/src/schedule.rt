@@ -4,8 +4,8 @@ pub(crate) mod edge_end;
 pub(crate) mod phase_change;
 pub(crate) mod picking;
 
+use crate::bucket_rules::Counts;
 use crate::buckets::Buckets;
-use crate::counting::Counts;
 use crate::phase::Phase;
 
 /// The schedule: counters of the edges of a plan, and buckets of edges by what they can do.

@@ -7,7 +7,7 @@ use Rattle.std.proofs.lemmas.List.{take_more}
 use Rattle.plan_text.specs.declared.piece_reader.Piece.{Piece}
 use Rattle.plan_scope.specs.declared.edge.compiled.VariablePart.{VariablePart}
 use Rattle.plan_scope.specs.declared.edge.compiled.CompiledRule.{CompiledRule}
-use Rattle.plan_scope.specs.declared.manifest.found_rules.FoundRule.{FoundRule}
+use Rattle.plan_scope.specs.declared.manifest.rules.FoundRule.{FoundRule}
 use Rattle.plan_scope.specs.Scopes.{Text, Name, Bindings, ScopedBindings, last_of, lookup, nearest}
 use Rattle.plan_scope.specs.Expansion.{EdgeEnvironment, Meaning, Known, Late, or_known, or_late, listed, meaning_of, both, joined, text_of, text_of_piece, variable}
 use Rattle.plan_scope.specs.Memo.{text_by}

@@ -4,15 +4,15 @@ use Rattle.std.proofs.Common.{◌≡◌, ℕ, ◌<◌, ◌≤◌, List, [], ◌�
 use Rattle.std.specs.List.{All}
 use Rattle.std.proofs.lemmas.List.{get_or_append_left, map-append}
 use Rattle.std.proofs.lemmas.List.Elements.{All-append, All-cons, All-head, All-nil, All-tail, All-weaker}
-use Rattle.plan_parse.specs.declared.path_lists.PathLists.{PathLists}
+use Rattle.plan_parse.specs.declared.compact.PathLists.{PathLists}
 use Rattle.plan_scope.specs.declared.edge.paths.PathTexts.{PathTexts}
 use Rattle.plan_scope.specs.declared.edge.variables.Variables.{Variables}
 use Rattle.plan_scope.specs.declared.fault.Cause.{Cause}
 use Rattle.plan_scope.specs.declared.fault.StatementFault.{StatementFault}
 use Rattle.plan_scope.specs.declared.fault.StatementFault.TheVariants.{Refused, Memory}
-use Rattle.plan_scope.specs.declared.edge.edge_paths.PathPlaces.{PathPlaces}
-use Rattle.plan_scope.specs.declared.edge.edge_rows.EdgeMarks.{EdgeMarks}
-use Rattle.plan_scope.specs.declared.edge.edge_rows.EdgeRows.{EdgeRows}
+use Rattle.plan_scope.specs.declared.edge.edge_list.PathPlaces.{PathPlaces}
+use Rattle.plan_scope.specs.declared.edge.edge_list.EdgeMarks.{EdgeMarks}
+use Rattle.plan_scope.specs.declared.edge.edge_list.EdgeRows.{EdgeRows}
 use Rattle.plan_scope.specs.Scopes.{Text}
 use Rattle.plan_scope.specs.Edge.{Edge}
 use Rattle.plan_scope.specs.Edges.{edge_of, is_present}

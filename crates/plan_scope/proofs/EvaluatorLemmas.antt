@@ -12,8 +12,8 @@ use Rattle.plan_scope.specs.declared.fault.StatementFault.TheVariants.{Refused, 
 use Rattle.plan_scope.specs.declared.fault.ScopeFault.{ScopeFault}
 use Rattle.plan_scope.specs.declared.fault.ScopeFault.TheVariants as scope
 use Rattle.plan_scope.specs.Edge.{Edge}
-use Rattle.plan_scope.specs.declared.edge.edge_rows.EdgeMarks.{EdgeMarks}
-use Rattle.plan_scope.specs.declared.edge.edge_rows.EdgeRows.{EdgeRows}
+use Rattle.plan_scope.specs.declared.edge.edge_list.EdgeMarks.{EdgeMarks}
+use Rattle.plan_scope.specs.declared.edge.edge_list.EdgeRows.{EdgeRows}
 use Rattle.plan_scope.specs.declared.manifest.DefaultTarget.{DefaultTarget}
 use Rattle.plan_scope.specs.declared.manifest.Pool.{Pool}
 use Rattle.plan_scope.specs.declared.manifest.Manifest.{Manifest}

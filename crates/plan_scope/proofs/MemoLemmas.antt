@@ -8,7 +8,7 @@ use Rattle.std.proofs.lemmas.Grind.{common_steps}
 use Rattle.plan_text.specs.declared.piece_reader.Piece.{Piece}
 use Rattle.plan_scope.specs.declared.fault.StatementFault.{StatementFault}
 use Rattle.plan_scope.specs.declared.fault.StatementFault.TheVariants.{Refused, Memory}
-use Rattle.plan_scope.specs.declared.edge.memo.MemoEntry.{MemoEntry}
+use Rattle.plan_scope.specs.declared.edge.expansion.MemoEntry.{MemoEntry}
 use Rattle.plan_scope.specs.Scopes.{Text, Name}
 use Rattle.plan_text.specs.Limits.{max_text}
 use Rattle.plan_scope.specs.Expansion.{Meaning, Late, both, joined, text_of, text_of_piece, text_within}

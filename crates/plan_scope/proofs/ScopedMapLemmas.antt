@@ -4,7 +4,7 @@ use Rattle.std.proofs.lemmas.List.{get_or-set_same, length-set}
 use Rattle.std.proofs.lemmas.Slice.Eq.{bytes_eq-Decides}
 use Rattle.std.specs.Map.{lookup}
 use Rattle.indexmap.specs.IndexMap.{insert_entry}
-use Rattle.plan_scope.specs.declared.scope.keys.Key.{Key}
+use Rattle.plan_scope.specs.declared.scope.scoped_map.Key.{Key}
 use Rattle.plan_scope.specs.Scopes.{Name, Bindings, ScopedBindings, last_of, frame, nearest, or_else}
 use Rattle.plan_scope.specs.Keys.{AreMarked, IsMarked, mark_of, marks, same_key, same_key_equiv, key_of, scoped_by}
 use Rattle.plan_scope.proofs.SmallMapLemmas.{last_of_push}

@@ -1,6 +1,6 @@
 -- Edges.
 use Rattle.std.specs.Prelude.{Bool, List}
-use Rattle.plan_parse.specs.declared.path_lists.PathLists.{PathLists}
+use Rattle.plan_parse.specs.declared.compact.PathLists.{PathLists}
 use Rattle.plan_scope.specs.Scopes.{Text}
 
 -- The outputs and inputs of a build line and how the outputs are built: its canonical paths, the texts of its

@@ -6,9 +6,9 @@ use Rattle.plan_scope.specs.declared.edge.paths.PathTexts.{PathTexts}
 use Rattle.plan_scope.specs.declared.fault.Cause.{Cause}
 use Rattle.plan_scope.specs.declared.fault.StatementFault.{StatementFault}
 use Rattle.plan_scope.specs.declared.fault.StatementFault.TheVariants.{Refused, Memory}
-use Rattle.plan_scope.specs.declared.edge.edge_paths.PathPlaces.{PathPlaces}
-use Rattle.plan_scope.specs.declared.edge.edge_rows.EdgeMarks.{EdgeMarks}
-use Rattle.plan_scope.specs.declared.edge.edge_rows.EdgeRows.{EdgeRows}
+use Rattle.plan_scope.specs.declared.edge.edge_list.PathPlaces.{PathPlaces}
+use Rattle.plan_scope.specs.declared.edge.edge_list.EdgeMarks.{EdgeMarks}
+use Rattle.plan_scope.specs.declared.edge.edge_list.EdgeRows.{EdgeRows}
 use Rattle.plan_scope.specs.Edge.{Edge}
 use Rattle.plan_scope.specs.EdgePlaces.{paths_at}
 use Rattle.plan_scope.specs.EdgeRows.{AreWithin, edge_with, edges_in}

@@ -1,8 +1,8 @@
 -- The places of an edge's paths among those of all edges.
 use Rattle.std.specs.Prelude.{◌≤◌, ℕ, List}
-use Rattle.plan_parse.specs.declared.path_lists.PathLists.{PathLists}
+use Rattle.plan_parse.specs.declared.compact.PathLists.{PathLists}
 use Rattle.plan_parse.specs.PathLists.{between}
-use Rattle.plan_scope.specs.declared.edge.edge_paths.PathPlaces.{PathPlaces}
+use Rattle.plan_scope.specs.declared.edge.edge_list.PathPlaces.{PathPlaces}
 use Rattle.plan_scope.specs.Scopes.{Text}
 
 -- The paths of an edge, taken from the paths of all edges.

@@ -1,8 +1,8 @@
 -- Edges whose paths and texts are held in rows that all edges share.
 use Rattle.std.specs.Prelude.{◌≡◌, ◌<◌, ℕ, List, [], All, length, map, get_or}
-use Rattle.plan_parse.specs.declared.path_lists.PathLists.{PathLists}
-use Rattle.plan_scope.specs.declared.edge.edge_rows.EdgeMarks.{EdgeMarks}
-use Rattle.plan_scope.specs.declared.edge.edge_rows.EdgeRows.{EdgeRows}
+use Rattle.plan_parse.specs.declared.compact.PathLists.{PathLists}
+use Rattle.plan_scope.specs.declared.edge.edge_list.EdgeMarks.{EdgeMarks}
+use Rattle.plan_scope.specs.declared.edge.edge_list.EdgeRows.{EdgeRows}
 use Rattle.plan_scope.specs.Edge.{Edge}
 use Rattle.plan_scope.specs.EdgePlaces.{ArePlaced, paths_at}
 use Rattle.plan_scope.specs.Scopes.{Text}

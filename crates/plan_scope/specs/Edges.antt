@@ -6,7 +6,7 @@ use Rattle.plan_text.specs.Numerals.{number_in}
 use Rattle.plan_text.specs.Path.{canonical_of}
 use Rattle.plan_text.specs.declared.fault.TextFault.{TextFault}
 use Rattle.plan_text.specs.declared.piece_reader.Piece.{Piece}
-use Rattle.plan_parse.specs.declared.path_lists.PathLists.{PathLists}
+use Rattle.plan_parse.specs.declared.compact.PathLists.{PathLists}
 use Rattle.plan_parse.specs.PathLists.{all_in, map_lists}
 use Rattle.plan_parse.specs.declared.statement.Binding.{Binding}
 use Rattle.plan_parse.specs.Build.{Build}

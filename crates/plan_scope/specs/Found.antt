@@ -2,7 +2,7 @@
 use Rattle.std.specs.Prelude.{◌≡◌, ℕ, List, [], ◌∷◌, Some}
 use Rattle.plan_text.specs.declared.piece_reader.Piece.{Piece}
 use Rattle.plan_scope.specs.declared.edge.compiled.CompiledRule.{CompiledRule}
-use Rattle.plan_scope.specs.declared.manifest.found_rules.FoundRule.{FoundRule}
+use Rattle.plan_scope.specs.declared.manifest.rules.FoundRule.{FoundRule}
 use Rattle.plan_scope.specs.Scopes.{Text, Name, Bindings, ScopedBindings, lookup, nearest}
 use Rattle.plan_scope.specs.Compiled.{IsCompiledRule}
 

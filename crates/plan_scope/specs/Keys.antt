@@ -6,7 +6,7 @@ use Rattle.std.specs.Hash as fed
 use Rattle.std.specs.Cmp.Rules.{hashing}
 use Rattle.std.proofs.Common.{rules}
 use Rattle.plan_text.specs.HashWords.{words}
-use Rattle.plan_scope.specs.declared.scope.keys.Key.{Key}
+use Rattle.plan_scope.specs.declared.scope.scoped_map.Key.{Key}
 use Rattle.plan_scope.specs.Scopes.{Name, Bindings, ScopedBindings, frame, last_of}
 
 -- The same scope and the same name.

@@ -3,7 +3,7 @@ use Rattle.std.specs.Prelude.{◌≡◌, ◌≤◌, ℕ, zero, suc, true, false,
 use Rattle.plan_scope.specs.declared.fault.Cause.TheVariants.{RuleCycle}
 use Rattle.plan_scope.specs.declared.fault.StatementFault.{StatementFault}
 use Rattle.plan_scope.specs.declared.fault.StatementFault.TheVariants.{Refused, Memory}
-use Rattle.plan_scope.specs.declared.edge.memo.MemoEntry.{MemoEntry}
+use Rattle.plan_scope.specs.declared.edge.expansion.MemoEntry.{MemoEntry}
 use Rattle.plan_scope.specs.Scopes.{Text, Name}
 use Rattle.plan_scope.specs.Expansion.{Meaning, joined, text_of}
 use Rattle.plan_scope.specs.Kept.{kept}

@@ -1,7 +1,7 @@
 -- The paths of a build line, as the code holds them.
 use Rattle.std.specs.Prelude.{◌≡◌, ◌||◌, ◌++◌, ◌∷◌, [], List, map, Option}
 use Rattle.std.specs.List.{list_any}
-use Rattle.plan_parse.specs.declared.path_lists.PathLists.{PathLists}
+use Rattle.plan_parse.specs.declared.compact.PathLists.{PathLists}
 use Rattle.plan_parse.specs.PathLists.{map_lists}
 use Rattle.plan_scope.specs.declared.edge.paths.PathRows.{PathRows}
 use Rattle.plan_scope.specs.declared.edge.paths.PathTexts.{PathTexts}

@@ -3,9 +3,8 @@
 pub(crate) mod commands;
 mod defaults;
 pub(crate) mod evaluator;
-pub(crate) mod found_rules;
 mod pools;
-mod rules;
+pub(crate) mod rules;
 
 use crate::edge::edge_list::EdgeList;
 use plan_text::{Items, SmallText};

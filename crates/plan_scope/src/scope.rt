@@ -7,10 +7,8 @@ ghost use Rattle.plan_scope.specs.Kept.{KeptEqLookup, kept};
 ghost use Rattle.plan_scope.specs.ScopeNames.{names_in};
 
 pub(crate) mod cow_text;
-mod keys;
 pub(crate) mod path_range;
 pub(crate) mod scoped_map;
-pub(crate) mod small_map;
 pub(crate) mod text;
 
 use crate::scope::scoped_map::ScopedMap;

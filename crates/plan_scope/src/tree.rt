@@ -7,20 +7,15 @@ ghost use Rattle.plan_scope.specs.KindSaid.{kind_said};
 ghost use Rattle.plan_scope.specs.FileStatements.{statement_at};
 ghost use Rattle.plan_scope.specs.declared.fault.ScopeFault.TheVariants as scope_fault;
 
-pub(crate) mod binding;
-mod loaded;
+pub(crate) mod loaded;
 pub(crate) mod loader;
-mod parsed;
-mod segment;
+pub(crate) mod parsed;
 pub(crate) mod source;
-pub(crate) mod statements;
 
 use crate::fault::{Cause, ScopeFault};
 use crate::scope::scoped_map::ScopedMap;
 use crate::scope::text::copy_of;
-use crate::tree::parsed::Parsed;
-use crate::tree::segment::Segment;
-use crate::tree::statements::Statements;
+use crate::tree::parsed::{Parsed, Segment, Statements};
 use plan_parse::{BindingLine, BuildLine, CompactStatement, DirectiveKind};
 use plan_text::Items;
 use std::alloc::{AllocError, Global};

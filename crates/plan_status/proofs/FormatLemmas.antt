@@ -4,7 +4,7 @@ use Rattle.std.proofs.lemmas.List.{append-nil, length-append, take_all, take-app
 use Rattle.std.proofs.KnownBytes.{Appends-nil}
 use Rattle.std.specs.Prelude.{is_some}
 use Rattle.plan_image.specs.declared.image.Parts.{Parts}
-use Rattle.plan_machine.specs.declared.event.mark.Mark.{Mark}
+use Rattle.plan_machine.specs.declared.event.Mark.{Mark}
 use Rattle.plan_status.specs.declared.fault.PrintFault.{PrintFault}
 use Rattle.plan_status.specs.declared.fault.PrintFault.TheVariants.{Memory}
 use Rattle.plan_status.specs.Lines.{ends, line_of, lines_behind, lines_of, tells_end}

@@ -1,8 +1,8 @@
 -- Marks on their way through a ring. Serves src/feed.rt, src/tap.rt, src/line_progress.rt and src/laws.rt.
 use Rattle.std.proofs.Common.{ℕ, ◌≤◌, List, length, take, drop, sym, ap, subst, ◌∙◌, arith}
 use Rattle.std.proofs.lemmas.List.{length-append, take-append-le, take-append-drop}
-use Rattle.plan_machine.specs.declared.event.mark.Mark.{Mark}
-use Rattle.plan_status.specs.declared.feed.Feed.{Feed}
+use Rattle.plan_machine.specs.declared.event.Mark.{Mark}
+use Rattle.plan_status.specs.declared.tap.Feed.{Feed}
 use Rattle.plan_status.specs.Live.{EndsStay, FeedStays, FeedsJoin, IsFed, LineProgressStays, ShownIsFree, UnusedIsFed}
 use Rattle.plan_status.proofs.ConsolesLemmas.{free_is_most, looked_stays}
 

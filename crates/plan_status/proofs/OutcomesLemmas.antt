@@ -3,7 +3,7 @@ use Rattle.std.proofs.Common.{◌≡◌, ◌<◌, ℕ, zero, suc, ◌+◌, refl,
 use Rattle.std.proofs.lemmas.Bool.{ltb-true, ltb-false}
 use Rattle.plan_image.specs.declared.image.Edge.{Edge}
 use Rattle.plan_image.specs.declared.image.Parts.{Parts}
-use Rattle.plan_machine.specs.declared.event.mark.Outcome.{Outcome}
+use Rattle.plan_machine.specs.declared.event.Outcome.{Outcome}
 use Rattle.plan_machine.specs.State.{State, outcome_at}
 use Rattle.plan_status.specs.Outcomes.{are_done, edge_line, is_done, outcomes_from}
 

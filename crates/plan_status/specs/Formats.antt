@@ -1,7 +1,7 @@
 -- What is printed of the marks of a run, by a format.
 use Rattle.std.specs.Prelude.{◌≡◌, ℕ, ◌≤◌, List, Option, None, length, take}
 use Rattle.plan_image.specs.declared.image.Parts.{Parts}
-use Rattle.plan_machine.specs.declared.event.mark.Mark.{Mark}
+use Rattle.plan_machine.specs.declared.event.Mark.{Mark}
 use Rattle.plan_status.specs.declared.fault.PrintFault.{PrintFault}
 use Rattle.plan_status.specs.Lines.{ends, lines_of}
 use Rattle.plan_status.specs.Printing.{Prints}

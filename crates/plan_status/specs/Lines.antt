@@ -7,8 +7,8 @@ use Rattle.plan_image.specs.declared.image.Parts.{Parts}
 use Rattle.plan_verify.specs.Tables.{first_output, path_of}
 use Rattle.plan_verify.specs.declared.value.Cause.{Cause}
 use Rattle.plan_verify.specs.declared.value.Cause.TheVariants.{MissingInput, StatFault, Exit, Signal, NotStarted, DepfileFault, DepfileMalformed, RecordFault}
-use Rattle.plan_machine.specs.declared.event.mark.Mark.{Mark}
-use Rattle.plan_machine.specs.declared.event.mark.Mark.TheVariants.{Ended, Failed, Skipped, Stopped}
+use Rattle.plan_machine.specs.declared.event.Mark.{Mark}
+use Rattle.plan_machine.specs.declared.event.Mark.TheVariants.{Ended, Failed, Skipped, Stopped}
 use Rattle.plan_machine.specs.Total.{has_command}
 
 abbrev pub missing_text : Parts → ℕ → Option (List ℕ)

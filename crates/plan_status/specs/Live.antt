@@ -2,10 +2,10 @@
 use Rattle.std.specs.Prelude.{◌≡◌, ℕ, ◌≤◌, List, [], ◌++◌, None, length, take}
 use Rattle.rtrb.specs.Ring.{IsPair, SameConsumer, SameProducer, received, sent}
 use Rattle.plan_image.specs.declared.image.Parts.{Parts}
-use Rattle.plan_machine.specs.declared.event.mark.Mark.{Mark}
-use Rattle.plan_status.specs.declared.feed.Feed.{Feed}
+use Rattle.plan_machine.specs.declared.event.Mark.{Mark}
+use Rattle.plan_status.specs.declared.tap.Feed.{Feed}
 use Rattle.plan_status.specs.declared.tap.Tap.{Tap}
-use Rattle.plan_status.specs.declared.line_progress.LineProgress.{LineProgress}
+use Rattle.plan_status.specs.declared.format.LineProgress.{LineProgress}
 use Rattle.plan_status.specs.Consoles.{AreFree, HasLooked}
 
 -- the two ends of one ring

@@ -2,7 +2,7 @@
 use Rattle.std.specs.Prelude.{◌≡◌, ℕ, true, false, List, ◌++◌, Option, Some, None}
 use Rattle.plan_text.specs.Sinks.{AppendsFront, Writes}
 use Rattle.plan_image.specs.declared.image.Parts.{Parts}
-use Rattle.plan_machine.specs.declared.event.mark.Mark.{Mark}
+use Rattle.plan_machine.specs.declared.event.Mark.{Mark}
 use Rattle.plan_status.specs.declared.fault.PrintFault.{PrintFault}
 use Rattle.plan_status.specs.declared.fault.PrintFault.TheVariants.{Memory, Write}
 use Rattle.plan_status.specs.Lines.{lines_behind}

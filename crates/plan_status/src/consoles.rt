@@ -1,7 +1,7 @@
 //! Console edges, whose commands have the terminal to themselves: which of them hold job tokens.
 
 ghost use Rattle.std.specs.Prelude.{◌≡◌, IfOk, false, get_or, option_map, slice_set};
-ghost use Rattle.plan_machine.specs.declared.event.mark.Mark.{Mark as Told};
+ghost use Rattle.plan_machine.specs.declared.event.Mark.{Mark as Told};
 ghost use Rattle.plan_status.specs.Consoles.{AreFree, AreNoted, HasLooked, is_console, is_console_name};
 ghost use Rattle.plan_status.specs.Trues.{trues};
 
@@ -75,7 +75,7 @@ fn flag_at(flags: &[bool], at: usize) -> bool
 
 impl Consoles {
     ghost use Rattle.std.specs.Prelude.{◌≡◌, ◌≤◌, ◌+◌, ◌∷◌, [], ◌++◌, List, IfOk, false, get_or, length, slice_set, true};
-    ghost use Rattle.plan_machine.specs.declared.event.mark.Mark.{Mark as Told};
+    ghost use Rattle.plan_machine.specs.declared.event.Mark.{Mark as Told};
     ghost use Rattle.plan_status.specs.Consoles.{AreFree, AreNoted, HasLooked, is_console};
     ghost use Rattle.plan_status.specs.Trues.{trues};
 

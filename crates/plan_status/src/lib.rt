@@ -16,22 +16,17 @@
 
 mod consoles;
 mod fault;
-mod feed;
 mod format;
 mod laws;
-mod line_progress;
 mod lines;
-mod names;
 mod outcomes;
 mod printing;
 mod tap;
 
 pub use consoles::{Consoles, free_marks, is_console};
 pub use fault::PrintFault;
-pub use feed::Feed;
-pub use format::{Format, StatusLines, lines_are_printed};
+pub use format::{Format, LineProgress, StatusLines, lines_are_printed};
 pub use laws::{ends_stay, lines_join, marks_may_come, prints_join};
-pub use line_progress::LineProgress;
 pub use outcomes::{all_done, print_outcomes};
 pub use printing::{print, status_lines};
-pub use tap::{Tap, live, print_by};
+pub use tap::{Feed, Tap, live, print_by};

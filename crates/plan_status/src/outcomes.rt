@@ -10,8 +10,7 @@ ghost use Rattle.plan_status.specs.Printing.{Prints};
 
 use crate::fault::PrintFault;
 use crate::laws::join_laws;
-use crate::lines::{cause_text, concatenate};
-use crate::names::first_path;
+use crate::lines::{cause_text, concatenate, first_path};
 use plan_image::{EdgeRef, Parts};
 use plan_machine::{Cause, Outcome, State};
 use plan_text::{Sink, write_all};

@@ -1,20 +1,19 @@
-//! The end of the ring that prints.
+//! Both ends of the ring: lanes fill it with marks, and one thread prints them.
 
-ghost use Rattle.std.specs.Prelude.{◌≡◌, ◌≤◌, ◌++◌, ◌∷◌, [], ℕ, List, Option, IfOk, length, take};
+ghost use Rattle.std.specs.Prelude.{◌≡◌, ◌≤◌, ◌++◌, ◌∷◌, [], ℕ, List, Option, IfOk, length, take, false, true};
 ghost use Rattle.std.specs.Result.{result_err};
 ghost use Rattle.rtrb.specs.Ring.{producer_capacity, received, sent};
-ghost use Rattle.plan_machine.specs.declared.event.mark.Mark.{Mark as Told};
+ghost use Rattle.plan_machine.specs.declared.event.Mark.{Mark as Told};
 ghost use Rattle.plan_status.specs.Formats.{HasPrinted};
-ghost use Rattle.plan_status.specs.Live.{AreEnds, IsFed, IsUntapped, IsUnused, SameTap};
+ghost use Rattle.plan_status.specs.Live.{AreEnds, IsFed, IsUntapped, IsUnused, SameTap, SameFeed};
 
 use crate::fault::PrintFault;
-use crate::feed::Feed;
 use crate::format::Format;
 use crate::laws::join_laws;
 use plan_machine::Mark;
 use plan_text::{Sink, write_all};
 use plan_verify::Verified;
-use rtrb::{Consumer, RingBuffer};
+use rtrb::{Consumer, Producer, RingBuffer};
 use std::alloc::{AllocError, Global};
 
 /// The end of a ring from which marks are printed while a run goes on, and the reason if printing stopped.
@@ -205,6 +204,56 @@ impl Tap {
         match print_rest(tap.alloc, tap.stop, image, total, marks, shown, format, out) {
             Some(fault) => Err(fault),
             None => Ok(()),
+        }
+    }
+}
+
+/// The end of a ring that lanes fill with marks while a run goes on.
+#[derive(Drop)]
+pub struct Feed {
+    pub(crate) ring: Producer<Mark>,
+    /// The number of marks that were put in, from the first on.
+    pub(crate) shown: usize,
+}
+
+impl Feed {
+    ghost use Rattle.std.specs.Prelude.{◌≡◌, ◌≤◌, ◌++◌, ◌∷◌, [], false, true};
+    ghost use Rattle.rtrb.specs.Ring.{sent};
+    ghost use Rattle.plan_status.specs.Live.{IsFed, SameFeed};
+
+    /// Returns the number of marks that were put in.
+    pub fn shown(&self) -> usize
+        ensures { result ≡ self.now.shown }
+    {
+        self.shown
+    }
+
+    /// Puts a mark in, if there is room. Returns whether it was put in.
+    fn push(&mut self, mark: Mark) -> bool
+        ensures yes { result ≡ true → sent self.new.ring ≡ sent self.old.ring ++ mark ∷ [] }
+        ensures no { result ≡ false → sent self.new.ring ≡ sent self.old.ring }
+        ensures ring { SameFeed self.old self.new }
+        ensures same { self.new.shown ≡ self.old.shown }
+    {
+        match self.ring.push(mark) {
+            Ok(()) => true,
+            Err(_full) => false,
+        }
+    }
+
+    /// Puts the marks in that weren't put in yet, until the ring is full. The next call then continues there. It never
+    /// waits.
+    pub fn show(&mut self, marks: &[Mark])
+        requires { IsFed marks.now self.old }
+        ensures fed { IsFed marks.now self.new }
+        ensures more { self.old.shown ≤ self.new.shown }
+        ensures ring { SameFeed self.old self.new }
+    {
+        for at in self.shown..marks.len() {
+            if !self.push(marks[at]) {
+                return;
+            }
+            self.shown = at + 1;
         }
     }
 }

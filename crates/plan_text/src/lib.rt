@@ -25,11 +25,7 @@
 //! this project's own choice. Each item says which of the two applies.
 #![tactic(auto)]
 
-mod byte_search;
-mod canonical_paths;
-mod counted;
 mod fault;
-mod front;
 mod ghost_counter;
 mod hashing;
 mod items;
@@ -42,14 +38,10 @@ mod path;
 mod piece_list;
 mod piece_reader;
 mod row_list;
-mod run_reader;
 mod shared_rows;
 mod sink;
 mod small_text;
 
-pub use byte_search::{begins, nul_at};
-pub use canonical_paths::is_canonical;
-pub use counted::Counted;
 pub use fault::TextFault;
 pub use ghost_counter::GhostCounter;
 pub use hashing::feed_words;
@@ -58,14 +50,16 @@ pub use laws::{
     canonical_stays, escaped_is_read, lines_cover, lines_join, plain_is_read, writes_join,
 };
 pub use limits::{MAX_PATH, MAX_SOURCE, MAX_TEXT};
-pub use line_reader::{Line, gap_len, indent_len, lines, logical_len, newline_len, split_line};
+pub use line_reader::{
+    Line, Unit, begins, gap_len, indent_len, lines, logical_len, newline_len, nul_at, run_len,
+    split_line,
+};
 pub use memory::Memory;
 pub use numerals::number_in;
-pub use path::canonical;
+pub use path::{canonical, is_canonical};
 pub use piece_list::PieceList;
 pub use piece_reader::{Mode, Piece, escape_len, name_len, pieces, pieces_at};
 pub use row_list::RowList;
-pub use run_reader::{Unit, run_len};
 pub use shared_rows::{Place, SharedRows};
-pub use sink::{Sink, SinkFault, write_all};
+pub use sink::{Counted, Sink, SinkFault, write_all};
 pub use small_text::SmallText;

@@ -1,14 +1,15 @@
-//! Splits a text into logical lines.
+//! Splits a text into logical lines, and finds bytes and runs in it.
 
-ghost use Rattle.std.specs.Prelude.{◌≡◌, take, ◌<◌, ◌≤◌, ◌+◌, length};
+ghost use Rattle.std.specs.Prelude.{◌≡◌, take, ◌<◌, ◌≤◌, ◌+◌, length, ◌==◌, drop};
 ghost use Rattle.plan_text.specs.Lines as syntax;
 ghost use Rattle.plan_text.specs.Runs as runs;
 ghost use Rattle.plan_text.specs.Outcome.{Meets};
+ghost use Rattle.std.specs.List.{position_or_len};
+ghost use Rattle.plan_text.specs.Bytes.{nul, begins_with};
+ghost use Rattle.plan_text.specs.Runs.{run};
 
-use crate::byte_search::{begins, nul_at};
 use crate::fault::TextFault;
 use crate::limits::MAX_SOURCE;
-use crate::run_reader::{Unit, run_len};
 use memchr::{memchr, memchr3};
 use std::alloc::Global;
 
@@ -216,4 +217,63 @@ pub fn lines(alloc: Global, text: &[u8]) -> Result<Vec<Line>, TextFault>
         at += len;
     }
     Ok(found)
+}
+
+/// Returns whether a text begins with this byte.
+pub fn begins(text: &[u8], b: u8) -> bool
+    ensures { result ≡ begins_with b text.now }
+{
+    match text {
+        [] => false,
+        [first, ..] => *first == b,
+    }
+}
+
+/// Returns the index of the first NUL byte. If the text has none, returns its length.
+pub fn nul_at(text: &[u8]) -> usize
+    ensures { result ≡ position_or_len (λ b. b == nul) text.now }
+{
+    text.iter().take_while(|b| **b != 0).count()
+}
+
+/// A kind of unit that a text may begin with, such as a space, or a `$` with the newline after it. Lengths are
+/// in bytes.
+pub trait Unit {
+    ghost use Rattle.std.specs.Prelude.{◌≡◌, ◌≤◌, ◌+◌, List, ℕ, length, drop};
+    ghost use Rattle.plan_text.specs.Runs.{run};
+
+    /// The length of the unit that a text begins with. It is 0 if the text begins with none. `unit_len` returns
+    /// it.
+    ghost size: { List ℕ → ℕ };
+
+    /// Returns a number of bytes at the front that are units and can be skipped at once. There may be more such
+    /// bytes.
+    fn plain_len(text: &[u8]) -> usize
+        ensures run { run size text.now ≡ result + run size (drop result text.now) }
+        ensures within { result ≤ length text.now }
+    {
+        let _ = text;
+        0
+    }
+
+    /// Returns the length of the unit that the text begins with. Returns 0 if it begins with none.
+    fn unit_len(text: &[u8]) -> usize
+        ensures len { result ≡ size text.now }
+        ensures within { result ≤ length text.now };
+}
+
+/// Returns the number of bytes at the front of a text that are consecutive units.
+pub fn run_len<U: Unit>(text: &[u8]) -> usize
+    ensures len { result ≡ run U.size text.now }
+    ensures within { result ≤ length text.now }
+{
+    let mut at = 0;
+    loop {
+        at += U::plain_len(&text[at..]);
+        let unit = U::unit_len(&text[at..]);
+        if unit == 0 {
+            return at;
+        }
+        at += unit;
+    }
 }

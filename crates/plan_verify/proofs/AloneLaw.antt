@@ -6,7 +6,7 @@ use Rattle.std.proofs.lemmas.Option.{slice_get_within}
 use Rattle.plan_image.specs.declared.image.Parts.{Parts}
 use Rattle.plan_image.specs.Code.{code}
 use Rattle.plan_verify.specs.declared.value.Value.{Value}
-use Rattle.plan_verify.specs.declared.shape.Shape.{Shape}
+use Rattle.plan_verify.specs.declared.kinds.Shape.{Shape}
 use Rattle.plan_verify.specs.Tables.{owns, slot_kind}
 use Rattle.plan_verify.specs.Turn.{kind_of, Slots, Request, Reply, Meaning, Local, begun, Turn, Goes, Sets, Asks, Ends, Fails, Wrong, turn, question, heard}
 use Rattle.plan_verify.specs.WellShaped.{at_start, AreAllShapes}

@@ -2,7 +2,7 @@
 use Rattle.std.proofs.Common.{◌≢◌, List, [], ◌∷◌, ◌++◌, refl, arith}
 use Rattle.std.specs.Prelude.{Contains}
 use Rattle.std.proofs.lemmas.List.Elements.{Contains-append_left, Contains-append_right}
-use Rattle.plan_verify.specs.declared.shape.Shape.{Shape}
+use Rattle.plan_verify.specs.declared.kinds.Shape.{Shape}
 use Rattle.plan_verify.specs.declared.arrivals.Arrival.TheVariants as arrival
 use Rattle.plan_verify.specs.Arrivals.{Joins}
 

@@ -4,17 +4,17 @@ use Rattle.std.specs.Prelude.{◌||◌, not, IfSome, nat_lt, nat_le, if◌then�
 use Rattle.std.specs.List.{list_all, list_any}
 use Rattle.std.proofs.lemmas.Bool.{leb-false, eq-eqb}
 use Rattle.std.proofs.lemmas.Option.{slice_get_within, none-some}
-use Rattle.plan_image.specs.declared.instr.Kind.{Kind}
-use Rattle.plan_image.specs.declared.instr.Kind.TheVariants as kind
-use Rattle.plan_image.specs.declared.instr.Instr.{Instr}
-use Rattle.plan_image.specs.declared.instr.Instr.TheVariants as op
+use Rattle.plan_image.specs.declared.body.Kind.{Kind}
+use Rattle.plan_image.specs.declared.body.Kind.TheVariants as kind
+use Rattle.plan_image.specs.declared.body.Instr.{Instr}
+use Rattle.plan_image.specs.declared.body.Instr.TheVariants as op
 use Rattle.plan_image.specs.declared.image.Slot.{Slot}
 use Rattle.plan_image.specs.declared.image.Edge.{Edge}
 use Rattle.plan_image.specs.declared.image.Parts.{Parts}
 use Rattle.plan_image.specs.Code.{code}
 use Rattle.plan_verify.specs.declared.value.Value.{Value}
 use Rattle.plan_verify.specs.declared.value.Value.TheVariants.{Stamp, Flag, Text, Paths, Swept}
-use Rattle.plan_verify.specs.declared.shape.Shape.{Shape}
+use Rattle.plan_verify.specs.declared.kinds.Shape.{Shape}
 use Rattle.plan_verify.specs.Tables.{own_from, own_slots, slot_kind, kind_in, path_of, paths_of, outputs_of, first_output, pool_outside}
 use Rattle.plan_verify.specs.Turn.{kind_of, Slots, Request, Stat, Recall, Run, Deps, Keep, Reply, StampIs, Entry, Nothing, Exit, Signal, NotStarted, Bytes, Kept, Fault, Meaning, Local, Turn, Goes, Sets, Asks, Ends, Fails, Wrong, Calculated, calculate, calculated, earlier, later, same_text, goes, next, jumps, asks_of, loads, stores, writes, sweeps, sweep, branches, runs, reads, keeps, act, act_at, turn, request_of, question, merged, found, ran, replied, replied_at, heard}
 use Rattle.plan_verify.specs.Shape.{is_paths, table_checks, table_refusal, table_refusal_of, image_checks, image_refusal}

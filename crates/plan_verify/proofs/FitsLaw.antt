@@ -5,14 +5,14 @@ use Rattle.std.specs.List.{slice_get, AllByRecursion, list_all, list_any}
 use Rattle.std.proofs.lemmas.Bool.{cases_eq, eq-eqb, ne_eqb, leb-false, ltb-false}
 use Rattle.std.proofs.lemmas.List.{nil_from_length}
 use Rattle.std.proofs.lemmas.List.Elements.{Contains-append_left, Contains-append_right}
-use Rattle.plan_image.specs.declared.instr.Kind.{Kind}
-use Rattle.plan_image.specs.declared.instr.Kind.TheVariants as kind
-use Rattle.plan_image.specs.declared.instr.Instr.{Instr}
-use Rattle.plan_image.specs.declared.instr.Instr.TheVariants as op
+use Rattle.plan_image.specs.declared.body.Kind.{Kind}
+use Rattle.plan_image.specs.declared.body.Kind.TheVariants as kind
+use Rattle.plan_image.specs.declared.body.Instr.{Instr}
+use Rattle.plan_image.specs.declared.body.Instr.TheVariants as op
 use Rattle.plan_image.specs.declared.image.Edge.{Edge}
 use Rattle.plan_image.specs.declared.image.Parts.{Parts}
 use Rattle.plan_image.specs.Code.{code, edge_code}
-use Rattle.plan_verify.specs.declared.shape.Shape.{Shape}
+use Rattle.plan_verify.specs.declared.kinds.Shape.{Shape}
 use Rattle.plan_verify.specs.declared.fault.Refusal.{Refusal}
 use Rattle.plan_verify.specs.Members.{is_member}
 use Rattle.plan_verify.specs.Tables.{owns, is_lent, own_slots, slot_kind, path_of, paths_of, outputs_of, first_output, first_path, pool_outside, is_outside, pool_in, outputs_in, with_path}

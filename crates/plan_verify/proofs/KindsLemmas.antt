@@ -2,10 +2,10 @@
 use Rattle.std.proofs.Common.{◌≡◌, ℕ, ◌+◌, ◌-◌, List, [], ◌∷◌, ◌++◌, length, take, drop, refl, sym, ap, ◌∙◌, Decides}
 use Rattle.std.specs.Prelude.{reverse}
 use Rattle.std.proofs.lemmas.List.{reverse-reverse, drop-drop, length-drop}
-use Rattle.plan_image.specs.declared.instr.Kind.{Kind}
-use Rattle.plan_image.specs.declared.instr.Kind.TheVariants as kind
+use Rattle.plan_image.specs.declared.body.Kind.{Kind}
+use Rattle.plan_image.specs.declared.body.Kind.TheVariants as kind
 use Rattle.plan_verify.specs.Stack.{swapped}
-use Rattle.plan_image.specs.contracts.instr.KindPartialEq.TheImpl as impl
+use Rattle.plan_image.specs.contracts.body.KindPartialEq.TheImpl as impl
 
 -- `==` of kinds decides equality
 pub kinds_decide : (a b : Kind) → Decides (impl.eq-value.it a b) (a ≡ b)

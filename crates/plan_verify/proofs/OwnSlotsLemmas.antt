@@ -5,7 +5,7 @@ use Rattle.std.specs.List.{list_any}
 use Rattle.std.proofs.lemmas.List.{drop_all}
 use Rattle.plan_image.specs.declared.image.Slot.{Slot}
 use Rattle.plan_image.specs.declared.image.Parts.{Parts}
-use Rattle.plan_verify.specs.declared.own_slots.OwnSlots.{OwnSlots}
+use Rattle.plan_verify.specs.declared.place_checks.OwnSlots.{OwnSlots}
 use Rattle.plan_verify.specs.Tables.{own_from, own_slots, slot_kind, kind_in}
 use Rattle.plan_verify.specs.Shape.{is_paths}
 use Rattle.plan_verify.specs.OwnSlots.{none, more, counted, CountsMore, AreCounted, AreOwnSlots}

@@ -6,14 +6,14 @@ use Rattle.std.proofs.lemmas.Bool.{cases_eq, eq-eqb, ne_eqb, ltb-false}
 use Rattle.std.proofs.lemmas.List.{append-nil, length_push, length-set}
 use Rattle.std.proofs.lemmas.List.Elements.{All-from_recursion}
 use Rattle.std.proofs.lemmas.Option.{slice_get_within, slice_get_read}
-use Rattle.plan_image.specs.declared.instr.Instr.{Instr}
-use Rattle.plan_image.specs.declared.instr.Instr.TheVariants as op
+use Rattle.plan_image.specs.declared.body.Instr.{Instr}
+use Rattle.plan_image.specs.declared.body.Instr.TheVariants as op
 use Rattle.plan_image.specs.declared.image.Parts.{Parts}
 use Rattle.plan_image.specs.Code.{code}
-use Rattle.plan_verify.specs.declared.shape.Shape.{Shape}
+use Rattle.plan_verify.specs.declared.kinds.Shape.{Shape}
 use Rattle.plan_verify.specs.declared.arrivals.Arrival.{Arrival}
 use Rattle.plan_verify.specs.declared.arrivals.Arrival.TheVariants as arrival
-use Rattle.plan_verify.specs.declared.flow.Flow.{Flow}
+use Rattle.plan_verify.specs.declared.arrivals.Flow.{Flow}
 use Rattle.plan_verify.specs.declared.fault.Refusal.{Refusal}
 use Rattle.plan_verify.specs.Shape.{left, targets, refused, kinds_after, table_refusal}
 use Rattle.plan_verify.specs.WellShaped.{at_start, toward, arriving, IsShapeAmong, IsRefusedAt, not_reached, shapes_differ, check_fails, IsFirstRefusal, place_fails}

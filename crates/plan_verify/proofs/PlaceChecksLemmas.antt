@@ -3,7 +3,7 @@ use Rattle.std.proofs.Common.{◌≡◌, ℕ, zero, suc, ◌+◌, ◌<◌, Bool,
 use Rattle.std.specs.List.{slice_get}
 use Rattle.std.specs.Prelude.{not, ◌||◌}
 use Rattle.std.proofs.lemmas.List.{drop_more}
-use Rattle.plan_image.specs.declared.instr.Kind.{Kind}
+use Rattle.plan_image.specs.declared.body.Kind.{Kind}
 use Rattle.plan_verify.specs.Shape.{wrong_kind, is_wanted}
 use Rattle.plan_verify.specs.Wanted.{options}
 use Rattle.plan_verify.proofs.OwnSlotsLemmas.{rest_at}

@@ -1,15 +1,15 @@
 -- The definitions, computed on small images.
 use Rattle.std.proofs.Common.{◌≡◌, Bool, true, false, List, [], ◌∷◌, replicate, Some, None, refl}
 use Rattle.std.specs.Prelude.{Ok, Err}
-use Rattle.plan_image.specs.declared.instr.Kind.{Kind}
-use Rattle.plan_image.specs.declared.instr.Kind.TheVariants as kind
-use Rattle.plan_image.specs.declared.instr.Instr.{Instr}
-use Rattle.plan_image.specs.declared.instr.Instr.TheVariants as op
+use Rattle.plan_image.specs.declared.body.Kind.{Kind}
+use Rattle.plan_image.specs.declared.body.Kind.TheVariants as kind
+use Rattle.plan_image.specs.declared.body.Instr.{Instr}
+use Rattle.plan_image.specs.declared.body.Instr.TheVariants as op
 use Rattle.plan_image.specs.declared.image.Sort.TheVariants as sort
 use Rattle.plan_image.specs.declared.image.EdgeCode.TheVariants.{Own}
 use Rattle.plan_image.specs.declared.image.Slot.{Slot}
 use Rattle.plan_image.specs.declared.image.Parts.{Parts}
-use Rattle.plan_verify.specs.declared.shape.Shape.{Shape}
+use Rattle.plan_verify.specs.declared.kinds.Shape.{Shape}
 use Rattle.plan_verify.specs.declared.fault.Refusal.TheVariants as refusal
 use Rattle.plan_verify.specs.declared.value.Cause.TheVariants.{DepfileMalformed}
 use Rattle.plan_verify.specs.Turn.{Run, Deps, Stat, Exit, Bytes, StampIs, Meaning, turn, heard}

@@ -6,11 +6,11 @@ use Rattle.std.proofs.lemmas.Bool.{cases_lt, ne_eqb}
 use Rattle.std.proofs.lemmas.List.{append-nil, length_push}
 use Rattle.std.proofs.lemmas.List.Elements.{All-append}
 use Rattle.std.proofs.lemmas.Option.{slice_get_within}
-use Rattle.plan_image.specs.declared.instr.Instr.{Instr}
-use Rattle.plan_image.specs.declared.instr.Instr.TheVariants as op
+use Rattle.plan_image.specs.declared.body.Instr.{Instr}
+use Rattle.plan_image.specs.declared.body.Instr.TheVariants as op
 use Rattle.plan_image.specs.declared.image.Parts.{Parts}
 use Rattle.plan_image.specs.Code.{code}
-use Rattle.plan_verify.specs.declared.shape.Shape.{Shape}
+use Rattle.plan_verify.specs.declared.kinds.Shape.{Shape}
 use Rattle.plan_verify.specs.declared.fault.Refusal.{Refusal}
 use Rattle.plan_verify.specs.Tables.{owns}
 use Rattle.plan_verify.specs.Shape.{left, targets, refused, bad_slot}

@@ -4,16 +4,16 @@ use Rattle.std.specs.Prelude.{◌||◌, ◌⊎◌, not, IsSome, IfSome, nat_lt, 
 use Rattle.std.specs.List.{list_all}
 use Rattle.std.proofs.lemmas.Bool.{cases_eq, eqb-true, le-ltb, lt-leb}
 use Rattle.std.proofs.lemmas.Option.{slice_get_within}
-use Rattle.plan_image.specs.declared.instr.Kind.{Kind}
-use Rattle.plan_image.specs.declared.instr.Kind.TheVariants as kind
-use Rattle.plan_image.specs.declared.instr.Instr.{Instr}
-use Rattle.plan_image.specs.declared.instr.Instr.TheVariants as op
+use Rattle.plan_image.specs.declared.body.Kind.{Kind}
+use Rattle.plan_image.specs.declared.body.Kind.TheVariants as kind
+use Rattle.plan_image.specs.declared.body.Instr.{Instr}
+use Rattle.plan_image.specs.declared.body.Instr.TheVariants as op
 use Rattle.plan_image.specs.declared.image.Slot.{Slot}
 use Rattle.plan_image.specs.declared.image.Parts.{Parts}
 use Rattle.plan_image.specs.Code.{code}
 use Rattle.plan_verify.specs.declared.value.Value.{Value}
 use Rattle.plan_verify.specs.declared.value.Value.TheVariants.{Stamp, Flag, Text, Paths, Swept}
-use Rattle.plan_verify.specs.declared.shape.Shape.{Shape}
+use Rattle.plan_verify.specs.declared.kinds.Shape.{Shape}
 use Rattle.plan_verify.specs.Members.{is_member, with_member}
 use Rattle.plan_verify.specs.Tables.{owned_by, own_slots, slot_kind, path_of, paths_of, outputs_of, first_output, pool_outside}
 use Rattle.plan_verify.specs.Turn.{kind_of, Slots, is_filled, is_set, Request, Stat, Recall, Run, Deps, Keep, Reply, StampIs, Entry, Nothing, Exit, Signal, NotStarted, Bytes, Kept, Fault, Meaning, Local, PlaceNotHeld, Turn, Asks, Wrong, Calculated, calculate, calculated, earlier, later, same_text, goes, next, jumps, asks_of, ends, loads, stores, writes, sweeps, sweep, branches, runs, reads, keeps, act, act_at, turn, merged, found, ran, replied, replied_at, heard}

@@ -1,8 +1,8 @@
 -- What is stored of the shapes that arrive at a place by jumps, and the lists of shapes that it describes.
 use Rattle.std.specs.Prelude.{◌≡◌, ◌≢◌, ℕ, List, [], ◌∷◌, ◌++◌, length, Some, slice_get}
-use Rattle.plan_image.specs.declared.instr.Instr.{Instr}
-use Rattle.plan_image.specs.declared.instr.Instr.TheVariants as op
-use Rattle.plan_verify.specs.declared.shape.Shape.{Shape}
+use Rattle.plan_image.specs.declared.body.Instr.{Instr}
+use Rattle.plan_image.specs.declared.body.Instr.TheVariants as op
+use Rattle.plan_verify.specs.declared.kinds.Shape.{Shape}
 use Rattle.plan_verify.specs.declared.arrivals.Arrival.{Arrival}
 use Rattle.plan_verify.specs.declared.arrivals.Arrival.TheVariants as arrival
 use Rattle.plan_verify.specs.WellShaped.{IsShapeAmong, Differ}

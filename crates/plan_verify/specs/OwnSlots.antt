@@ -3,7 +3,7 @@ use Rattle.std.specs.Prelude.{◌≡◌, ℕ, ◌+◌, ◌≤◌, false, ◌||�
 use Rattle.std.specs.List.{list_any}
 use Rattle.plan_image.specs.declared.image.Slot.{Slot}
 use Rattle.plan_image.specs.declared.image.Parts.{Parts}
-use Rattle.plan_verify.specs.declared.own_slots.OwnSlots.{OwnSlots}
+use Rattle.plan_verify.specs.declared.place_checks.OwnSlots.{OwnSlots}
 use Rattle.plan_verify.specs.Tables.{own_slots, slot_kind}
 use Rattle.plan_verify.specs.Shape.{is_paths}
 

@@ -1,11 +1,11 @@
 -- An edge whose values have the kinds of the shape at its place.
 use Rattle.std.specs.Prelude.{◌≡◌, ℕ, true, false, List, [], length, map, Some, IsSome, IfSome, slice_get, slice_set}
 use Rattle.std.specs.List.{list_all}
-use Rattle.plan_image.specs.declared.instr.Instr.{Instr}
+use Rattle.plan_image.specs.declared.body.Instr.{Instr}
 use Rattle.plan_image.specs.declared.image.Parts.{Parts}
 use Rattle.plan_image.specs.Code.{code}
 use Rattle.plan_verify.specs.declared.value.Value.{Value}
-use Rattle.plan_verify.specs.declared.shape.Shape.{Shape}
+use Rattle.plan_verify.specs.declared.kinds.Shape.{Shape}
 use Rattle.plan_verify.specs.Members.{is_member}
 use Rattle.plan_verify.specs.Tables.{owns, is_lent, own_slots, slot_kind}
 use Rattle.plan_verify.specs.Turn.{kind_of, Slots, is_set, Local, Turn, Goes, Sets, Asks, Ends, Fails, Wrong, Meaning, Reply, turn, heard, question}

@@ -1,7 +1,7 @@
 -- The parts of the tables that an edge's instructions read.
 use Rattle.std.specs.Prelude.{ℕ, ◌+◌, Bool, false, List, [], ◌∷◌, length, Option, Some, None, nat_le, ◌==◌, if◌then◌else◌, slice_get}
-use Rattle.plan_image.specs.declared.instr.Kind.{Kind}
-use Rattle.plan_image.specs.declared.instr.Kind.TheVariants as kind
+use Rattle.plan_image.specs.declared.body.Kind.{Kind}
+use Rattle.plan_image.specs.declared.body.Kind.TheVariants as kind
 use Rattle.plan_image.specs.declared.image.Slot.{Slot}
 use Rattle.plan_image.specs.declared.image.Edge.{Edge}
 use Rattle.plan_image.specs.declared.image.Parts.{Parts}

@@ -1,11 +1,11 @@
 -- The remaining cost of a running edge, which pays for each of its turns.
 use Rattle.std.specs.Prelude.{◌≡◌, ℕ, ◌+◌, ◌-◌, ◌*◌, ◌≤◌, List, [], ◌∷◌, length, drop, Some}
-use Rattle.plan_image.specs.declared.instr.Instr.{Instr}
+use Rattle.plan_image.specs.declared.body.Instr.{Instr}
 use Rattle.plan_image.specs.declared.image.Parts.{Parts}
 use Rattle.plan_image.specs.Code.{code}
 use Rattle.plan_verify.specs.declared.value.Value.{Value}
 use Rattle.plan_verify.specs.declared.value.Value.TheVariants.{Stamp, Flag, Text, Paths, Swept}
-use Rattle.plan_verify.specs.declared.shape.Shape.{Shape}
+use Rattle.plan_verify.specs.declared.kinds.Shape.{Shape}
 use Rattle.plan_verify.specs.Turn.{Slots, Local, Request, Reply, Meaning, Turn, Goes, Sets, Asks, Ends, Fails, Wrong, turn, question, heard}
 use Rattle.plan_verify.specs.WellShaped.{AreAllShapes, IsWellShaped}
 use Rattle.plan_verify.specs.Sound.{AreTyped, AreLentSet, IsTyped}

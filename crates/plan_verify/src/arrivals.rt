@@ -1,10 +1,13 @@
-//! The shapes that jumps bring to the places of a code.
+//! The shapes that jumps bring to the places of a code, and the shape that is carried from place to place.
 
-ghost use Rattle.std.specs.Prelude.{◌≡◌, ◌<◌, IfOk, OnOk, length, replicate, All};
+ghost use Rattle.std.specs.Prelude.{◌≡◌, ◌<◌, IfOk, OnOk, length, replicate, All, true, false};
 ghost use Rattle.plan_verify.specs.Arrivals.{Joins, JoinsAt, JoinsEach, jumps_to};
 ghost use Rattle.plan_verify.specs.declared.arrivals.Arrival.TheVariants as arrival;
+ghost use Rattle.plan_verify.specs.Pass.{MeetsAs, goes_on};
+ghost use Rattle.plan_verify.specs.WellShaped.{at_start};
 
-use crate::shape::Shape;
+use crate::fault::Refusal;
+use crate::kinds::Shape;
 use plan_image::Instr;
 use std::alloc::{AllocError, Global};
 use std::marker::Model;
@@ -17,7 +20,7 @@ pub(crate) struct KeptShape {
 }
 
 impl Model for KeptShape {
-    ghost use Rattle.plan_verify.specs.declared.shape.Shape.{Shape};
+    ghost use Rattle.plan_verify.specs.declared.kinds.Shape.{Shape};
 
     ghost Value = { Shape };
 
@@ -109,5 +112,63 @@ pub(crate) fn jump(
     match instr {
         Instr::Jump(to) | Instr::JumpIf(to) => arrive(alloc, all, to as usize, shape),
         _ => Ok(()),
+    }
+}
+
+/// The shape that the instruction before this place leaves, and whether that instruction continues to this
+/// place.
+#[derive(Drop)]
+pub(crate) struct Flow {
+    pub shape: Shape,
+    pub falls: bool,
+}
+
+/// Returns the flow at the first place.
+pub(crate) fn flow_at_start(alloc: Global) -> Flow
+    ensures shape { result.shape ≡ at_start }
+    ensures falls { result.falls ≡ true }
+{
+    Flow {
+        shape: Shape::start(alloc),
+        falls: true,
+    }
+}
+
+/// Merges the shapes that jumps bring to a place into the flow. Returns a refusal if no shape arrives, or if
+/// two that differ do.
+pub(crate) fn meet(arrival: Arrival, flow: &mut Flow) -> Option<Refusal>
+    ensures { MeetsAs arrival flow.old flow.new result }
+{
+    match arrival {
+        Arrival::Nothing => {
+            if flow.falls {
+                None
+            } else {
+                Some(Refusal::DeadCode)
+            }
+        }
+        Arrival::One(kept) => {
+            if flow.falls {
+                if kept.shape().is_same(&flow.shape) {
+                    None
+                } else {
+                    Some(Refusal::ShapesDiffer)
+                }
+            } else {
+                flow.shape = kept.into_shape();
+                None
+            }
+        }
+        Arrival::Differ => Some(Refusal::ShapesDiffer),
+    }
+}
+
+/// Returns whether an instruction can continue to the next place.
+pub(crate) fn falls_through(instr: Instr) -> bool
+    ensures { result ≡ goes_on instr }
+{
+    match instr {
+        Instr::End | Instr::Jump(_) => false,
+        _ => true,
     }
 }

@@ -14,30 +14,23 @@
 mod arrivals;
 mod budget;
 mod fault;
-mod flow;
 mod kinds;
 mod laws;
-mod own_slots;
-mod parts;
 mod pass;
 mod place_checks;
-mod shape;
-mod shape_change;
-mod slot_set;
 mod slot_tree;
 mod table_checks;
 mod value;
 mod verified;
 
 pub use fault::{Refusal, VerifyFault};
-pub use kinds::{Kinds, MAX_STACK};
+pub use kinds::{Kinds, MAX_STACK, Shape};
 pub use laws::{
     all_turns_pay, codes_are_short, goes_on_alone, hears_what_suits, instructions_fit,
     never_wrong_alone, questions_ignore_slots, refusals_are_true, replies_are_safe,
     stays_in_budget_alone, stays_typed, steps_are_safe, tables_are_in_range,
     verified_never_goes_wrong,
 };
-pub use shape::Shape;
-pub use slot_set::SlotSet;
+pub use slot_tree::SlotSet;
 pub use value::{Cause, PathList, Value, Words};
 pub use verified::{Verified, verify, verify_by};

@@ -1,20 +1,20 @@
-//! The checks of an instruction at a place.
+//! The checks of an instruction at a place, and the own slots of all edges.
 
-ghost use Rattle.std.specs.Prelude.{◌≡◌, ◌+◌, ◌<◌, ◌≤◌, ◌^◌, length, Option, Some, nat_lt, slice_get};
+ghost use Rattle.std.specs.Prelude.{◌≡◌, ◌+◌, ◌<◌, ◌≤◌, ◌^◌, length, Option, Some, nat_lt, slice_get, IfOk, OnOk, drop};
 ghost use Rattle.plan_image.specs.Code.{code};
 ghost use Rattle.plan_image.specs.Spelling.{IsInOrder};
 ghost use Rattle.plan_verify.specs.Members.{is_member};
 ghost use Rattle.plan_verify.specs.Tables.{owns, is_lent, own_slots, waits_of, slot_kind};
-ghost use Rattle.plan_verify.specs.Shape.{takes, kinds_after, bad_slot, bad_jump, bad_file, bad_text, lacks_place, keeps_place, is_wanted, wrong_kind, unset_slot, values_left, falls_off, refused};
+ghost use Rattle.plan_verify.specs.Shape.{takes, kinds_after, bad_slot, bad_jump, bad_file, bad_text, lacks_place, keeps_place, is_wanted, wrong_kind, unset_slot, values_left, falls_off, refused, is_paths};
 ghost use Rattle.plan_verify.specs.OwnSet.{IsOwnSet};
 ghost use Rattle.plan_verify.specs.Wanted.{options};
+ghost use Rattle.plan_verify.specs.OwnSlots.{none, more, AreOwnSlots, CountsMore};
 
 use crate::fault::Refusal;
-use crate::kinds::{Kinds, MAX_STACK};
-use crate::shape::Shape;
-use crate::slot_set::SlotSet;
-use crate::slot_tree::has_number;
-use plan_image::{Instr, Kind, Parts};
+use crate::kinds::{Kinds, MAX_STACK, Shape};
+use crate::slot_tree::{SlotSet, has_number};
+use plan_image::{Instr, Kind, Parts, Slot};
+use std::alloc::{AllocError, Global};
 
 /// Returns whether a slot is an edge's own.
 fn is_own(parts: &Parts, edge: u32, slot: u32) -> bool
@@ -333,4 +333,68 @@ pub(crate) fn refusal_at(
         return Some(Refusal::FallsOff);
     }
     None
+}
+
+/// The number of an edge's own slots, and whether one of them has a kind of paths.
+#[derive(Clone, Copy, Debug)]
+pub(crate) struct OwnSlots {
+    pub count: usize,
+    pub has_paths: bool,
+}
+
+fn has_paths(kind: Kind) -> bool
+    ensures { result ≡ is_paths kind }
+{
+    match kind {
+        Kind::Paths | Kind::Swept => true,
+        _ => false,
+    }
+}
+
+/// Counts one more slot.
+fn with_slot(own: OwnSlots, slot: Slot) -> OwnSlots
+    requires { own.count < 2 ^ 32 }
+    ensures { result ≡ more own slot }
+{
+    OwnSlots {
+        count: own.count + 1,
+        has_paths: own.has_paths | has_paths(slot.kind),
+    }
+}
+
+/// Counts a slot for its owner, if the owner is in the table.
+fn count_slot(edges: &mut Vec<OwnSlots>, slot: Slot)
+    requires { (e : Rattle.std.specs.Prelude.ℕ) → (own : OwnSlots) → slice_get edges.old.items e ≡ Some own → own.count < 2 ^ 32 }
+    ensures { CountsMore edges.old.items slot edges.new.items }
+{
+    let owner = slot.owner as usize;
+    if owner < edges.len() {
+        edges[owner] = with_slot(edges[owner], slot);
+    }
+}
+
+/// Counts the own slots of each edge.
+pub(crate) fn own_slots_of_all(alloc: Global, parts: &Parts) -> Result<Vec<OwnSlots>, AllocError>
+    requires { length parts.now.slots < 2 ^ 32 }
+    ensures { IfOk result (λ owns. AreOwnSlots parts.now owns.items) }
+{
+    let mut edges = no_slots(alloc, parts.edges.len())?;
+    for slot in parts.slots.as_slice() {
+        count_slot(&mut edges, *slot);
+    }
+    Ok(edges)
+}
+
+/// Returns counts of zero for `len` edges.
+fn no_slots(alloc: Global, len: usize) -> Result<Vec<OwnSlots>, AllocError>
+    ensures { IfOk result (λ owns. owns.items ≡ Rattle.std.specs.Prelude.replicate len none) }
+{
+    let mut edges = Vec::with_capacity(alloc, len)?;
+    for _ in 0..len {
+        edges.push(OwnSlots {
+            count: 0,
+            has_paths: false,
+        })?;
+    }
+    Ok(edges)
 }

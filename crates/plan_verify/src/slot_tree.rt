@@ -1,4 +1,4 @@
-//! Ascending numbers in a tree whose parts are shared.
+//! Ascending numbers in a tree whose parts are shared, and the set of an edge's own slots that are set.
 
 ghost use Rattle.std.specs.Prelude.{◌≡◌, ◌<◌, ◌≤◌, ◌+◌, ◌++◌, ◌^◌, ◌↔◌, IsTrue, OnOk, IfOk, [], take, drop, length, nat_lt};
 ghost use Rattle.std.specs.List.{list_all, prefix_len};
@@ -7,6 +7,8 @@ ghost use Rattle.plan_verify.specs.Members.{is_member, with_member};
 ghost use Rattle.plan_verify.specs.SlotTree.{numbers, AllBelow, IsParted};
 
 use std::alloc::{AllocError, Global};
+use std::marker::Model;
+use std::mem;
 use std::sync::Arc;
 
 /// The most numbers that are kept in one list.
@@ -279,4 +281,71 @@ fn are_within(held: &[u32], other: &SlotTree) -> bool
         }
     }
     true
+}
+
+/// A set of slot numbers, in ascending order. Copies of a large set share its parts. Inserting a number creates
+/// few new parts and shares the others.
+#[derive(Drop)]
+pub struct SlotSet {
+    tree: SlotTree,
+}
+
+impl Model for SlotSet {
+    ghost use Rattle.std.specs.Prelude.{List, ℕ};
+    ghost use Rattle.plan_verify.specs.SlotTree.{numbers, IsParted};
+
+    ghost Value = { List ℕ };
+
+    ghost view = { λ s. numbers s.tree };
+
+    ghost invariant = { λ s. IsParted s.tree };
+}
+
+impl SlotSet {
+    /// Creates an empty set.
+    pub(crate) fn new(alloc: Global) -> Self
+        ensures { result ≡ [] }
+    {
+        Self {
+            tree: SlotTree::Few(Vec::new(alloc)),
+        }
+    }
+
+    /// Returns the number of slots.
+    pub(crate) fn len(&self) -> usize
+        ensures { result ≡ length self.now }
+    {
+        self.tree.len()
+    }
+
+    /// Returns whether a slot is in the set.
+    pub(crate) fn contains(&self, slot: u32) -> bool
+        ensures { result ≡ is_member slot self.now }
+    {
+        self.tree.contains(slot)
+    }
+
+    /// Inserts a slot.
+    pub(crate) fn insert(&mut self, alloc: Global, slot: u32) -> Result<(), AllocError>
+        ensures { OnOk result (self.new ≡ with_member slot self.old) }
+    {
+        let tree = mem::replace(&mut self.tree, SlotTree::Few(Vec::new(alloc)));
+        self.tree = tree.into_with(alloc, slot)?;
+        Ok(())
+    }
+
+    /// Returns whether two sets have the same slots.
+    pub(crate) fn is_same(&self, other: &SlotSet) -> bool
+        ensures { IsTrue result ↔ (self.now ≡ other.now) }
+    {
+        self.tree.is_same(&other.tree)
+    }
+
+    /// Returns a copy, which shares the parts of a large set.
+    pub(crate) fn copy(&self, alloc: Global) -> Result<SlotSet, AllocError>
+        ensures { IfOk result (λ s. s ≡ self.now) }
+    {
+        let tree = self.tree.copy(alloc)?;
+        Ok(SlotSet { tree })
+    }
 }

@@ -8,7 +8,7 @@ ghost use Rattle.plan_verify.specs.Tables.{own_slots, slot_kind, is_outside};
 ghost use Rattle.plan_verify.specs.Shape.{ranks_below, lacks_outputs, is_paths, table_refusal_of, image_refusal};
 
 use crate::fault::Refusal;
-use crate::own_slots::OwnSlots;
+use crate::place_checks::OwnSlots;
 use plan_image::{EdgeRef, Parts};
 
 /// Returns whether an edge is in the table and its rank is less than this one.

@@ -7,8 +7,8 @@ ghost use Rattle.plan_verify.specs.Verdict.{IsPart, IsVerifyFault};
 
 use crate::budget::image_budget as count_budget;
 use crate::fault::VerifyFault;
-use crate::own_slots::own_slots_of_all;
-use crate::parts::{halvings, verify_halves, verify_part};
+use crate::pass::{halvings, verify_halves, verify_part};
+use crate::place_checks::own_slots_of_all;
 use crate::table_checks::refusal_of_all;
 use plan_image::Image;
 use std::alloc::Global;

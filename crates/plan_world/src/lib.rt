@@ -17,20 +17,17 @@ mod maintenance;
 mod reasons;
 mod record_file;
 mod record_sink;
-mod recorded;
 mod replacing;
 mod restating;
 mod rewriting;
-mod shared_file;
 mod shell;
-mod shells;
 mod stamp;
 mod world;
 
+pub use builder_lock::SharedFile;
 pub use fault::OpenFault;
 pub use maintenance::{recompact, recorded_outputs, restat};
-pub use shared_file::SharedFile;
-pub use shells::{Printed, Shells, SystemShells};
+pub use shell::{Printed, Shells, SystemShells};
 pub use world::RealWorld;
 
 #[cfg(test)]

@@ -1,11 +1,10 @@
 //! Records between builds: they are rewritten, and their outputs are listed.
 
-use crate::builder_lock::{BuilderLock, take_lock};
+use crate::builder_lock::{BuilderLock, SharedFile, take_lock};
 use crate::fault::{DeviceFault, OpenFault};
 use crate::reasons::say;
 use crate::record_file::{RecordFile, open_file, open_record};
 use crate::rewriting::{compact, restate};
-use crate::shared_file::SharedFile;
 use plan_text::RowList;
 use std::env::Env;
 use std::fs::{self, OpenFile};

@@ -9,10 +9,9 @@ ghost use Rattle.plan_world.specs.StartRecorded.{begun};
 ghost use Rattle.plan_world.specs.Recording.{EndsWith, Grows, IsWritten, TakesIn, edge_entry};
 ghost use Rattle.plan_world.specs.Rewriting.{has_grown};
 
+use crate::builder_lock::{SharedFile, open_shared};
 use crate::fault::DeviceFault;
-use crate::record_sink::{RecordSink, bytes_of};
-use crate::recorded::{begun_entry, entry_of, outputs_of};
-use crate::shared_file::{SharedFile, open_shared};
+use crate::record_sink::{RecordSink, begun_entry, bytes_of, entry_of, outputs_of};
 use plan_record::{Entry, Record, load, read_entries};
 use plan_text::RowList;
 use plan_verify::PathList;

@@ -8,7 +8,7 @@ ghost use Rattle.plan_world.specs.Rewriting.{is_begun, is_wanted, restated, rest
 
 use crate::askable::is_askable;
 use crate::fault::DeviceFault;
-use crate::recorded::{entry_of, is_begun, recorded_of};
+use crate::record_sink::{entry_of, is_begun, recorded_of};
 use crate::stamp::stamp_of;
 use plan_record::Entry;
 use std::alloc::Global;

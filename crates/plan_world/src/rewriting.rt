@@ -8,12 +8,11 @@ ghost use Rattle.plan_text.specs.Reducing.{texts};
 ghost use Rattle.plan_world.specs.Recording.{Grows};
 ghost use Rattle.plan_world.specs.Rewriting.{restated};
 
-use crate::builder_lock::BuilderLock;
+use crate::builder_lock::{BuilderLock, SharedFile};
 use crate::fault::DeviceFault;
 use crate::record_file::{RecordFile, open_record};
 use crate::replacing::replace_file;
 use crate::restating::{restate_entries, stamps_for};
-use crate::shared_file::SharedFile;
 use plan_record::spellings;
 use std::fs::OpenFile;
 use std::io::{Read, Seek, Write};

@@ -5,11 +5,10 @@ ghost use Rattle.plan_text.specs.Sinks.{Writes};
 ghost use Rattle.plan_image.specs.Columns.{lent, lent_instrs};
 ghost use Rattle.plan_image.specs.Listing.{edge_lines, instr_line, numbered, open_line, shared_words};
 
-use crate::body::Body;
+use crate::body::{Body, BodyInstr, Instr, Opening};
 use crate::edge_ref::{CodeRef, EdgeRef, InstrsRef};
 use crate::edges::Edges;
 use crate::image::{Pool, Slot};
-use crate::instr::{BodyInstr, Instr, Opening};
 use crate::lister::each::{Each, Listed};
 use crate::lister::part::{Line, Number, Part, Spaced, Word, WriteFault, write_behind_space};
 use crate::lister::value::{

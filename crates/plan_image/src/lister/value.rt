@@ -5,8 +5,8 @@ ghost use Rattle.std.specs.Fmt.{digit_glyph};
 ghost use Rattle.plan_text.specs.Sinks.{Writes};
 ghost use Rattle.plan_image.specs.Listing.{sort_word, kind_letter, name, operand_number};
 
+use crate::body::{Instr, Kind};
 use crate::image::Sort;
-use crate::instr::{Instr, Kind};
 use crate::lister::each::{Each, Listed};
 use crate::lister::part::{Number, Part, Word, WriteFault, write_behind_space};
 use plan_text::{Sink, write_all};

@@ -3,9 +3,8 @@
 ghost use Rattle.std.specs.Prelude.{◌≡◌};
 ghost use Rattle.plan_image.specs.Spelling;
 
-use crate::body::Body;
+use crate::body::{Body, BodyInstr, Instr, Kind, Opening};
 use crate::image::{Pool, Slot, Version};
-use crate::instr::{BodyInstr, Instr, Kind, Opening};
 use crate::lister::WriteFault;
 use crate::writing::part::{Bytes, Spelled, Table};
 use crate::writing::text::{Short, Text};

@@ -13,8 +13,8 @@ ghost use Rattle.plan_lanes.specs.Questions.{shown};
 ghost use Rattle.plan_lanes.specs.LocalRuns.{Follows, GoesOn, Rushes, SweepsRow};
 
 use super::{Advance, Board, Permit, permit_for, put};
-use crate::observable::keep;
-use crate::owned_request::{OwnedRequest, Question};
+use crate::batch::{OwnedRequest, Question};
+use crate::printed_run::keep;
 use crate::stamp_row::StampRow;
 use crate::world::World;
 use plan_machine::{Event, LocalRun, Refused, Reply};

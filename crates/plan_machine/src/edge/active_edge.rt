@@ -13,10 +13,9 @@ ghost use Rattle.plan_machine.specs.Step.{answer_of};
 ghost use Rattle.plan_machine.specs.Turned.{IsMade, IsTurned};
 ghost use Rattle.plan_machine.specs.Working.{IsPlain, IsSimple, Works};
 
-use crate::edge::parked::Parked;
-use crate::edge::slot::Slot;
-use crate::edge::stack::Stack;
-use crate::edge::turned::{Heard, Turned};
+use crate::edge::stack::{Slot, Stack};
+use crate::edge::status::Parked;
+use crate::edge::turns::{Heard, Turned};
 use crate::event::reply::Reply;
 use plan_image::{Image, Instr};
 use plan_schedule::Phase;

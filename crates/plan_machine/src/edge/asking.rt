@@ -8,10 +8,10 @@ ghost use Rattle.plan_machine.specs.ParkedLocal.{parked_local};
 ghost use Rattle.plan_machine.specs.Working.{Works};
 
 use crate::edge::active_edge::ActiveEdge;
-use crate::edge::parked::Parked;
-use crate::edge::slot::Slot;
-use crate::edge::tables::outputs;
-use crate::event::request::{Outputs, Request};
+use crate::edge::stack::Slot;
+use crate::edge::status::Parked;
+use crate::edge::turns::outputs;
+use crate::event::{Outputs, Request};
 use plan_image::{Image, Instr};
 
 /// Returns whether an instruction may ask a question.

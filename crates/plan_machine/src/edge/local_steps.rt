@@ -12,11 +12,10 @@ ghost use Rattle.plan_machine.specs.Turned.{IsMade, IsTurned};
 ghost use Rattle.plan_machine.specs.Working.{IsSimple, Works};
 
 use crate::edge::active_edge::ActiveEdge;
-use crate::edge::parked::Parked;
-use crate::edge::slot::Slot;
-use crate::edge::status::{EdgeState, Status};
-use crate::edge::turned::Turned;
-use crate::run::local_run::LocalRun;
+use crate::edge::stack::Slot;
+use crate::edge::status::{EdgeState, Parked, Status};
+use crate::edge::turns::Turned;
+use crate::run::local_runs::LocalRun;
 use plan_image::{CodeView, Image, Instr};
 use std::alloc::{AllocError, Global};
 

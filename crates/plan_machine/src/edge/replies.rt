@@ -1,7 +1,7 @@
 //! The effects of replies on an edge.
 
 ghost use Rattle.std.specs.Prelude.{◌≡◌, ◌<◌, ◌+◌, ◌^◌, ◌∷◌, [], IfOk, IfSome, IsSome, OnErr, Some, drop, length};
-ghost use Rattle.plan_image.specs.declared.instr.Instr.TheVariants as op;
+ghost use Rattle.plan_image.specs.declared.body.Instr.TheVariants as op;
 ghost use Rattle.plan_verify.specs.Turn.{Goes, Moved, goes, merged, next, replied};
 ghost use Rattle.plan_depfile.specs.Faults.{number_of, offset_of};
 ghost use Rattle.plan_machine.specs.Depfile.{depfile, or_zero};
@@ -10,7 +10,7 @@ ghost use Rattle.plan_machine.specs.Step.{answer_of};
 ghost use Rattle.plan_machine.specs.Working.{IsSweeping, Sweeps, Works};
 
 use crate::edge::active_edge::ActiveEdge;
-use crate::edge::turned::Heard;
+use crate::edge::turns::Heard;
 use crate::event::reply::{Depfile, Recorded, Reply};
 use plan_depfile::DepFault;
 use plan_image::Instr;

@@ -1,17 +1,18 @@
-//! Instructions that read the tables or the slots, or take memory.
+//! Instructions that read the tables or the slots, or take memory, and their effects on an edge.
 
 ghost use Rattle.std.specs.Prelude.{◌≡◌, ◌<◌, ◌+◌, ◌^◌, ◌∷◌, ◌++◌, IfOk, OnErr, false, length, nat_lt, slice_get};
-ghost use Rattle.plan_image.specs.declared.instr.Instr.TheVariants as op;
+ghost use Rattle.plan_image.specs.declared.body.Instr.TheVariants as op;
 ghost use Rattle.plan_verify.specs.Turn.{Goes, Moved, calculate, calculated, loads, stores, sweep, writes};
-ghost use Rattle.plan_machine.specs.LocalRuns.{IsLocalStep};
+ghost use Rattle.plan_machine.specs.LocalRuns.{IsLocalStep, asks_by};
 ghost use Rattle.plan_machine.specs.Turned.{IsMade, IsTurned};
 ghost use Rattle.plan_machine.specs.Working.{Works, filling};
-ghost use Rattle.plan_machine.specs.declared.edge.turned.Turned.TheVariants as turned;
+ghost use Rattle.plan_machine.specs.declared.edge.turns.Turned.TheVariants as turned;
+ghost use Rattle.plan_verify.specs.Tables.{outputs_of, pool_of, waits_of};
+ghost use Rattle.plan_machine.specs.Total.{has_command};
 
 use crate::edge::active_edge::ActiveEdge;
-use crate::edge::slot::Slot;
-use crate::edge::turned::Turned;
-use plan_image::Image;
+use crate::edge::stack::Slot;
+use plan_image::{Image, Parts, Sort};
 use plan_verify::{Cause, PathList, Value, Words};
 use std::alloc::{AllocError, Global};
 
@@ -181,4 +182,84 @@ impl ActiveEdge {
             }
         }
     }
+}
+
+/// Returns the number of edges.
+pub(crate) fn edge_count(parts: &Parts) -> usize
+    ensures { result ≡ length parts.now.edges }
+{
+    parts.edges.len()
+}
+
+/// Returns the edges that an edge waits for. Returns none if there is no such edge.
+pub(crate) fn waits(parts: &Parts, edge: u32) -> &[u32]
+    ensures { result.now ≡ waits_of parts.now edge }
+{
+    match parts.edges.waits(edge as usize) {
+        Some(waits) => waits,
+        None => &[],
+    }
+}
+
+/// Returns the pool of an edge. Returns None if it has none or there is no such edge.
+pub(crate) fn pool(parts: &Parts, edge: u32) -> Option<u32>
+    ensures { result ≡ pool_of parts.now edge }
+{
+    match parts.edges.get(edge as usize) {
+        Some(edge) => edge.pool,
+        None => None,
+    }
+}
+
+/// Returns the files that an edge creates. Returns none if there is no such edge.
+pub(crate) fn outputs(parts: &Parts, edge: u32) -> &[u32]
+    ensures { result.now ≡ outputs_of parts.now edge }
+{
+    match parts.edges.get(edge as usize) {
+        Some(edge) => edge.outputs,
+        None => &[],
+    }
+}
+
+/// Returns whether an edge has a command.
+pub(crate) fn has_command(parts: &Parts, edge: u32) -> bool
+    ensures { result ≡ has_command parts.now edge }
+{
+    match parts.edges.get(edge as usize) {
+        Some(edge) => matches!(edge.sort, Sort::Command),
+        None => false,
+    }
+}
+
+/// The effect of a step on an edge.
+#[derive(Clone, Copy, Debug)]
+pub(crate) enum Turned {
+    Moved,
+    /// It set a slot.
+    Stored,
+    Took,
+    Released,
+    Asked,
+    Ended,
+    Failed(Cause),
+}
+
+impl Turned {
+    /// Returns whether the step asked a question.
+    pub(crate) fn asks(self) -> bool
+        ensures { result ≡ asks_by self }
+    {
+        match self {
+            Turned::Asked => true,
+            _ => false,
+        }
+    }
+}
+
+/// The effect of a reply on an edge: it goes on, it failed, or the reply doesn't match its question.
+#[derive(Clone, Copy, Debug)]
+pub(crate) enum Heard {
+    On,
+    Failed(Cause),
+    Unfit,
 }

@@ -6,11 +6,10 @@ ghost use Rattle.plan_machine.specs.Replaying.{IsReplayFault};
 
 use crate::event::Event;
 use crate::laws::interleavings_agree;
-use crate::run::options::Options;
 use crate::run::refused::Refused;
 use crate::run::replaying::replay;
 use crate::run::sameness::are_same_ends;
-use crate::run::state::State;
+use crate::run::state::{Options, State};
 use plan_verify::Verified;
 use std::alloc::Global;
 

@@ -13,11 +13,9 @@ ghost use Rattle.plan_machine.specs.LocalRuns.{is_still, moves_of, local_run_eve
 ghost use Rattle.plan_machine.specs.State.{Active, State as Stands};
 ghost use Rattle.plan_machine.specs.Step.{NotEnabled, step};
 
-use crate::event::Event;
-use crate::event::mark::Mark;
 use crate::event::reply::Reply;
+use crate::event::{Event, Mark};
 use crate::laws::turn_laws;
-use crate::run::local_run::LocalRun;
 use crate::run::refused::Refused;
 use crate::run::state::State;
 use plan_image::Image;
@@ -110,4 +108,12 @@ impl State {
         self.note(tables, edge);
         Ok((mark, local_run))
     }
+}
+
+/// The length of a local run of an edge: the number of steps that asked nothing, and whether one more step
+/// asked.
+#[derive(Clone, Copy, Debug, PartialEq, Eq)]
+pub struct LocalRun {
+    pub steps: u32,
+    pub asked: bool,
 }

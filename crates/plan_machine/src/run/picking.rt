@@ -9,8 +9,7 @@ ghost use Rattle.plan_machine.specs.Picking.{IsEnabled, StepsFirst, event_of};
 ghost use Rattle.plan_machine.specs.Requests.{Asks, AsksNothing, asked_at, asks_by, shown};
 ghost use Rattle.plan_machine.specs.State.{Active, has_ended};
 
-use crate::event::Event;
-use crate::event::request::Request;
+use crate::event::{Event, Request};
 use crate::laws::turn_laws;
 use crate::run::state::State;
 use plan_image::Image;

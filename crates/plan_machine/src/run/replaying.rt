@@ -12,12 +12,10 @@ ghost use Rattle.plan_machine.specs.Replaying.{IsReplayFault, IsStop, RunsTo, We
 ghost use Rattle.plan_machine.specs.Runs.{Reached};
 ghost use Rattle.plan_machine.specs.Step.{NotEnabled, Wrong, step};
 
-use crate::event::Event;
-use crate::event::mark::Mark;
+use crate::event::{Event, Mark};
 use crate::laws::{depfiles_are_frugal, marks_are_orderly, never_wrong, stays_in_budget};
-use crate::run::options::Options;
 use crate::run::refused::Refused;
-use crate::run::state::State;
+use crate::run::state::{Options, State};
 use plan_verify::Verified;
 use std::alloc::Global;
 

@@ -4,9 +4,9 @@ ghost use Rattle.std.specs.Prelude.{◌≡◌, ◌<◌, Some, bytes_eq, length, 
 ghost use Rattle.plan_machine.specs.Sameness.{same_at, same_cause, same_ended, same_ends, same_flag, same_outcome, same_paths, same_slot, same_slots, same_status, same_statuses, same_value};
 ghost use Rattle.plan_machine.specs.State.{outcome_at};
 
-use crate::edge::slot::{Slot, Stored};
+use crate::edge::stack::{Slot, Stored};
 use crate::edge::status::Status;
-use crate::event::mark::Outcome;
+use crate::event::Outcome;
 use crate::run::state::State;
 use plan_verify::{Cause, PathList};
 

@@ -1,6 +1,6 @@
-//! The state of a running image, with its schedule.
+//! The state of a running image, with its schedule and its options.
 
-ghost use Rattle.std.specs.Prelude.{◌≡◌, ◌≢◌, ◌<◌, ◌^◌, ◌&&◌, ◌⊎◌, ℕ, Err, IfErr, IfOk, OnErr, Some, count_by, false, length, slice_get, true};
+ghost use Rattle.std.specs.Prelude.{◌≡◌, ◌≢◌, ◌<◌, ◌^◌, ◌&&◌, ◌⊎◌, ℕ, Err, IfErr, IfOk, OnErr, Some, count_by, false, length, slice_get, true, ◌≤◌, None, if◌then◌else◌, nat_lt, nat_le};
 ghost use Rattle.std.specs.List.{list_all};
 ghost use Rattle.plan_image.specs.declared.image.Parts.{Parts};
 ghost use Rattle.plan_image.specs.Code.{code};
@@ -18,15 +18,12 @@ ghost use Rattle.plan_machine.specs.Step.{NotEnabled, step};
 ghost use Rattle.plan_machine.specs.Total.{total_of};
 ghost use Rattle.plan_machine.specs.Wanted.{any_outside};
 
-use crate::edge::tables::{pool, waits};
-use crate::event::Event;
-use crate::event::mark::{Mark, Outcome};
+use crate::edge::turns::{pool, waits};
+use crate::event::{Event, Mark, Outcome};
 use crate::laws::turn_laws;
-use crate::run::image_plan::image_plan;
 use crate::run::machine::Machine;
-use crate::run::options::Options;
 use crate::run::refused::Refused;
-use crate::run::wanted::{any_outside, wanted_edges};
+use crate::run::wanted::{any_outside, image_plan, wanted_edges};
 use plan_image::Image;
 use plan_schedule::{Phase, Plan, Schedule};
 use plan_verify::{Verified, codes_are_short};
@@ -329,5 +326,54 @@ impl State {
         let mark = self.change(tables, event)?;
         self.note(tables, edge);
         Ok(mark)
+    }
+}
+
+/// The most edges that may hold a job token at once (1 to 64), and the failure limit (0 means no limit).
+#[derive(Clone, Copy, Debug)]
+pub struct Options {
+    jobs: u8,
+    keep: u32,
+}
+
+impl Model for Options {
+    ghost use Rattle.plan_machine.specs.Limits.{Limits};
+    ghost use Rattle.std.specs.Prelude.{◌<◌, ◌≤◌};
+
+    ghost Value = { Limits };
+
+    ghost view = { λ o. record { jobs = o.jobs; keep = o.keep } };
+
+    ghost inverse = { λ l. record { jobs = l.jobs; keep = l.keep } };
+
+    ghost invariant = { λ o. (0 < o.jobs) × (o.jobs ≤ 64) };
+}
+
+impl Options {
+    /// Creates options. Returns None if `jobs` isn't 1 to 64. This limit is the project's own choice.
+    pub fn new(jobs: u8, keep: u32) -> Option<Options>
+        ensures { result ≡ (if nat_lt 0 jobs && nat_le jobs 64 then Some (record { jobs = jobs; keep = keep }) else None) }
+    {
+        if jobs > 0 && jobs <= 64 {
+            Some(Options { jobs, keep })
+        } else {
+            None
+        }
+    }
+
+    /// Returns the most edges that may hold a job token at once.
+    pub fn jobs(&self) -> u8
+        ensures same { result ≡ self.now.jobs }
+        ensures some { 0 < result }
+        ensures few { result ≤ 64 }
+    {
+        self.jobs
+    }
+
+    /// Returns the failure limit. 0 means no limit.
+    pub fn keep(&self) -> u32
+        ensures { result ≡ self.now.keep }
+    {
+        self.keep
     }
 }

@@ -13,16 +13,13 @@ ghost use Rattle.plan_chunks.specs.Joining.{HasMore};
 ghost use Rattle.plan_scope.specs.EdgeAnswers.{AreTexts, GivesEdge, GivesMarks, texts_read};
 ghost use Rattle.plan_scope.specs.ScopeNames.{names_in};
 
-use crate::edge::compiled::CompiledRule;
-use crate::edge::edge_paths::PathPlaces;
-use crate::edge::edge_rows::{EdgeMarks, EdgeRows};
+use crate::edge::compiled::{CompiledRule, RuleVariables};
+use crate::edge::edge_list::{EdgeMarks, EdgeRows, PathPlaces};
 use crate::edge::expansion::EdgeEnvironment;
 use crate::edge::paths::{BlockTexts, PathRows, PathTexts, block, read_paths};
-use crate::edge::pool_names::PoolNames;
-use crate::edge::rule_variables::RuleVariables;
 use crate::edge::text_list::TextList;
 use crate::edge::variables::{
-    Variables, has_long_text, is_other_deps, is_present, keep_room, variables_of_phony,
+    PoolNames, Variables, has_long_text, is_other_deps, is_present, keep_room, variables_of_phony,
     variables_of_rule,
 };
 use crate::fault::{Cause, StatementFault};

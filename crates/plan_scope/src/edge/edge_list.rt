@@ -1,14 +1,15 @@
-//! The edges of a manifest, held in rows.
+//! The edges of a manifest, held in rows with their paths.
 
-ghost use Rattle.std.specs.Prelude.{◌≡◌, ◌<◌, Some, length, slice_get};
+ghost use Rattle.std.specs.Prelude.{◌≡◌, ◌<◌, Some, length, slice_get, [], IfOk};
 ghost use Rattle.plan_scope.specs.EdgeRows.{AreWithin, edges_in};
 ghost use Rattle.plan_scope.specs.TextLists.{whole};
+ghost use Rattle.plan_scope.specs.EdgePlaces.{ArePlaced, paths_at};
 
-use crate::edge::edge_paths::EdgePaths;
-use crate::edge::edge_rows::{EdgeMarks, EdgeRows};
-use crate::edge::edge_text::EdgeText;
-use crate::edge::text_list::TextList;
+use crate::edge::paths::PathRows;
+use crate::edge::text_list::{EdgeText, TextList, TextPool};
 use crate::scope::path_range::PathRange;
+use plan_text::RowList;
+use std::alloc::{AllocError, Global};
 use std::marker::Model;
 
 /// The edges of a manifest in the order of their build lines. Contracts see a list of edges. The paths and the texts of
@@ -164,5 +165,144 @@ impl<'a> EdgeRef<'a> {
         ensures { result ≡ self.now.phony }
     {
         self.marks.phony
+    }
+}
+
+/// The places of an edge's paths and texts in the rows of all edges, and the edge's flags.
+#[derive(Clone, Copy, Debug, Drop)]
+pub struct EdgeMarks {
+    /// The places of its paths.
+    pub paths: PathPlaces,
+    /// The number of its command among the texts.
+    pub command: u32,
+    /// The number of its description among the texts.
+    pub description: u32,
+    /// The number of its depfile's path among the texts.
+    pub depfile: u32,
+    /// The number of its pool's name among the texts.
+    pub pool: u32,
+    /// Whether outputs that its command leaves unchanged count as if they had never needed building.
+    pub restat: bool,
+    /// Whether it builds the manifest's own files. A change of only its command then doesn't run it again.
+    pub generator: bool,
+    /// Whether it is phony: it runs nothing and only gives its inputs other names.
+    pub phony: bool,
+}
+
+/// Edges in their order. The rows of their paths and texts are shared by all edges.
+#[derive(Debug, Drop)]
+pub struct EdgeRows {
+    /// The paths of all edges.
+    pub paths: PathRows,
+    /// The texts of all edges that aren't empty, after one empty text.
+    pub texts: TextList,
+    /// The places and flags of each edge.
+    pub marks: Vec<EdgeMarks>,
+    /// The pool of buffers for texts that are joined.
+    pub spare: TextPool,
+}
+
+impl EdgeRows {
+    /// Creates rows without an edge, with capacity for `edges` edges.
+    pub fn new(alloc: Global, edges: usize) -> Result<EdgeRows, AllocError>
+        ensures none { IfOk result (λ rows. edges_in rows ≡ []) }
+        ensures within { IfOk result (λ rows. AreWithin rows) }
+        ensures marks { IfOk result (λ rows. rows.marks.items ≡ []) }
+    {
+        let mut texts = TextList::new(alloc);
+        texts.push(&[])?;
+        Ok(EdgeRows {
+            paths: PathRows::new(alloc)?,
+            texts,
+            marks: Vec::with_capacity(alloc, edges)?,
+            spare: TextPool::new(alloc),
+        })
+    }
+}
+
+/// The places of an edge's lists of paths in the rows of all edges. Each list ends where the next one begins.
+#[derive(Clone, Copy, Debug, Drop)]
+pub struct PathPlaces {
+    /// The number of the first explicit output.
+    pub outputs: u32,
+    /// The number of the first implicit output.
+    pub implicit_outputs: u32,
+    /// The number of the first explicit input.
+    pub inputs: u32,
+    /// The number of the first implicit input.
+    pub implicit_inputs: u32,
+    /// The number of the first order-only input.
+    pub order_only_inputs: u32,
+    /// The number after that of the last path.
+    pub end: u32,
+}
+
+/// The paths of an edge. Contracts see their lists.
+#[derive(Drop)]
+pub struct EdgePaths<'a> {
+    rows: &'a RowList<u8>,
+    places: PathPlaces,
+}
+
+impl<'a> Model for EdgePaths<'a> {
+    ghost use Rattle.std.specs.Prelude.{List, length};
+    ghost use Rattle.plan_parse.specs.declared.compact.PathLists.{PathLists};
+    ghost use Rattle.plan_scope.specs.Scopes.{Text};
+    ghost use Rattle.plan_scope.specs.EdgePlaces.{ArePlaced, paths_at};
+
+    ghost Value = { PathLists (List Text) };
+
+    ghost view = { λ p. paths_at p.rows.now p.places };
+
+    ghost invariant = { λ p. ArePlaced (length p.rows.now) p.places };
+}
+
+impl<'a> EdgePaths<'a> {
+    /// Creates the view of the paths at these places.
+    pub(crate) fn new(rows: &'a RowList<u8>, places: PathPlaces) -> EdgePaths<'a>
+        requires { ArePlaced (length rows.now) places }
+        ensures { result ≡ paths_at rows.now places }
+    {
+        EdgePaths { rows, places }
+    }
+
+    /// Returns the explicit outputs.
+    pub fn outputs(&self) -> PathRange<'a>
+        ensures { result ≡ self.now.outputs }
+    {
+        let (start, end) = (self.places.outputs, self.places.implicit_outputs);
+        PathRange::new(self.rows, start as usize, end as usize)
+    }
+
+    /// Returns the implicit outputs.
+    pub fn implicit_outputs(&self) -> PathRange<'a>
+        ensures { result ≡ self.now.implicit_outputs }
+    {
+        let (start, end) = (self.places.implicit_outputs, self.places.inputs);
+        PathRange::new(self.rows, start as usize, end as usize)
+    }
+
+    /// Returns the explicit inputs.
+    pub fn inputs(&self) -> PathRange<'a>
+        ensures { result ≡ self.now.inputs }
+    {
+        let (start, end) = (self.places.inputs, self.places.implicit_inputs);
+        PathRange::new(self.rows, start as usize, end as usize)
+    }
+
+    /// Returns the implicit inputs.
+    pub fn implicit_inputs(&self) -> PathRange<'a>
+        ensures { result ≡ self.now.implicit_inputs }
+    {
+        let (start, end) = (self.places.implicit_inputs, self.places.order_only_inputs);
+        PathRange::new(self.rows, start as usize, end as usize)
+    }
+
+    /// Returns the order-only inputs.
+    pub fn order_only_inputs(&self) -> PathRange<'a>
+        ensures { result ≡ self.now.order_only_inputs }
+    {
+        let (start, end) = (self.places.order_only_inputs, self.places.end);
+        PathRange::new(self.rows, start as usize, end as usize)
     }
 }

@@ -14,9 +14,9 @@ ghost use Rattle.plan_chunks.specs.Joining.{HasMore};
 ghost use Rattle.plan_scope.specs.EdgeAnswers.{texts_read};
 ghost use Rattle.plan_scope.specs.ScopeNames.{names_in};
 
-use crate::edge::edge_paths::{EdgePaths, PathPlaces};
+use crate::edge::edge_list::{EdgePaths, PathPlaces};
 use crate::scope::cow_text::CowText;
-use crate::scope::small_map::SmallMap;
+use crate::scope::scoped_map::SmallMap;
 use crate::scope::text::{append, front_kept, is_long};
 use crate::scope::{Scope, expand_pieces, name_text};
 use plan_parse::{

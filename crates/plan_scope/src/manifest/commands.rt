@@ -7,7 +7,7 @@ ghost use Rattle.plan_scope.specs.Edges.{command_line, commands_of};
 ghost use Rattle.plan_scope.specs.TextLists.{whole};
 
 use crate::edge::edge_list::EdgeRef;
-use crate::edge::edge_text::{EdgeText, write_text};
+use crate::edge::text_list::{EdgeText, write_text};
 use crate::manifest::Manifest;
 use plan_text::{Sink, SinkFault, write_all, writes_join};
 

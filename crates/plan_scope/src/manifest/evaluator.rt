@@ -17,22 +17,18 @@ ghost use Rattle.plan_scope.specs.Evaluation.{Fits, GivesMore, IsLocated, Knows,
 ghost use Rattle.plan_scope.specs.Found.{AreFound};
 
 use crate::edge::build_line::{push_edge, push_phony_edge};
-use crate::edge::compiled::CompiledRule;
-use crate::edge::edge_list::EdgeList;
-use crate::edge::edge_rows::EdgeRows;
-use crate::edge::pool_names::{CONSOLE, PoolNames};
-use crate::edge::rule_compiler::compile_rule;
-use crate::edge::rule_variables::RuleVariables;
+use crate::edge::compiled::{CompiledRule, RuleVariables, compile_rule};
+use crate::edge::edge_list::{EdgeList, EdgeRows};
+use crate::edge::variables::{CONSOLE, PoolNames};
 use crate::fault::{Cause, ScopeFault, StatementFault};
 use crate::manifest::defaults::targets;
-use crate::manifest::found_rules::{FoundRule, find_rule, keep_rule, replace_rule};
 use crate::manifest::pools::pool;
-use crate::manifest::rules::{declare, is_phony};
+use crate::manifest::rules::{FoundRule, declare, find_rule, is_phony, keep_rule, replace_rule};
 use crate::manifest::{DefaultTarget, Manifest, Pool};
 use crate::scope::Scope;
 use crate::scope::scoped_map::ScopedMap;
 use crate::scope::text::copy_of;
-use crate::tree::binding::bind_statement;
+use crate::tree::loaded::bind_statement;
 use crate::tree::{Said, Tree, TreeStatement};
 use plan_parse::{BuildLine, DirectiveKind};
 use plan_text::{Items, PieceList};

@@ -8,7 +8,7 @@ ghost use Rattle.plan_scope.specs.Evaluation.{depth_by};
 ghost use Rattle.plan_scope.specs.Outcomes.{Gives};
 ghost use Rattle.plan_scope.specs.ScopeNames.{names_in};
 
-use crate::edge::pool_names::PoolNames;
+use crate::edge::variables::PoolNames;
 use crate::fault::{Cause, StatementFault};
 use crate::manifest::Pool;
 use crate::scope::text::{copy_of, is_long};

@@ -1,18 +1,21 @@
-//! The statements of a tree that are loaded so far.
+//! The statements of a tree that are loaded so far, and the names that they bind.
 
-ghost use Rattle.std.specs.Prelude.{◌≡◌, ◌≤◌, ◌++◌, [], IfOk, IfSome, Ok, OnOk, length};
+ghost use Rattle.std.specs.Prelude.{◌≡◌, ◌≤◌, ◌++◌, [], IfOk, IfSome, Ok, OnOk, length, ◌+◌, ◌∷◌};
 ghost use Rattle.plan_parse.specs.PathLists.{between};
 ghost use Rattle.plan_scope.specs.FileStatements.{statements_at};
 ghost use Rattle.plan_scope.specs.Kept.{KeptEqScoped};
 ghost use Rattle.plan_scope.specs.LoaderAnswers.{IsParsed};
 ghost use Rattle.plan_scope.specs.Loading.{fresh_scope, own_scope};
-ghost use Rattle.plan_scope.specs.Scopes.{bound_by};
+ghost use Rattle.plan_scope.specs.Scopes.{bound_by, ScopedBindings as Bound, Text, bound_in, expand, in_own, is_too_long, lookup};
+ghost use Rattle.std.specs.List.{list_any};
 
 use crate::scope::scoped_map::ScopedMap;
-use crate::tree::parsed::Parsed;
-use crate::tree::segment::Segment;
-use crate::tree::{File, Tree};
+use crate::scope::text::is_long;
+use crate::scope::{Scope, expand_pieces};
+use crate::tree::parsed::{Parsed, Segment};
+use crate::tree::{File, Said, Tree, TreeStatement};
 use indexmap::IndexMap;
+use plan_parse::Binding;
 use plan_text::Items;
 use std::alloc::{AllocError, Global};
 use std::marker::Model;
@@ -187,5 +190,61 @@ impl Loaded {
             segments: Items::new(segments),
             bound,
         }
+    }
+}
+
+/// Binds a name in a scope, by the bindings above. Returns whether its text is too long.
+fn bind_in(
+    alloc: Global,
+    bound: &mut ScopedMap<Items<u8>>,
+    own: usize,
+    scopes: &[usize],
+    binding: &Binding,
+) -> Result<bool, AllocError>
+    ensures bound { OnOk result ((meant : Bound Text) → KeptEqScoped bound.old meant → KeptEqScoped bound.new (meant ++ (own, (binding.now.name, expand (lookup meant scopes.now) binding.now.value)) ∷ [])) }
+    ensures long { IfOk result (λ long. (meant : Bound Text) → KeptEqScoped bound.old meant → long ≡ is_too_long (expand (lookup meant scopes.now) binding.now.value)) }
+{
+    let text = expand_pieces(
+        alloc,
+        Scope {
+            bound: &*bound,
+            scopes,
+        },
+        binding.value.as_slice(),
+    )?;
+    let long = is_long(&text);
+    bound.set(alloc, own, binding.name.as_slice(), Items::new(text))?;
+    Ok(long)
+}
+
+/// Binds a name in the own scope of a statement, by the bindings above. Returns whether its text is too long.
+fn bind_own(
+    alloc: Global,
+    bound: &mut ScopedMap<Items<u8>>,
+    scopes: &[usize],
+    binding: &Binding,
+) -> Result<bool, AllocError>
+    ensures bound { OnOk result ((meant : Bound Text) → KeptEqScoped bound.old meant → KeptEqScoped bound.new (meant ++ in_own scopes.now binding.now.name (expand (lookup meant scopes.now) binding.now.value))) }
+    ensures long { IfOk result (λ long. (meant : Bound Text) → KeptEqScoped bound.old meant → long ≡ list_any (λ b. is_too_long b.1.1) (in_own scopes.now binding.now.name (expand (lookup meant scopes.now) binding.now.value))) }
+{
+    match scopes {
+        [] => Ok(false),
+        [own, ..] => bind_in(alloc, bound, *own, scopes, binding),
+    }
+}
+
+/// Binds the name of a statement that is a binding, by the bindings above it. Returns whether its text is too long.
+pub fn bind_statement(
+    alloc: Global,
+    bound: &mut ScopedMap<Items<u8>>,
+    statement: &TreeStatement<'_>,
+) -> Result<bool, AllocError>
+    ensures bound { OnOk result ((meant : Bound Text) → KeptEqScoped bound.old meant → KeptEqScoped bound.new (meant ++ bound_in meant statement.now.scopes statement.now.kind)) }
+    ensures long { IfOk result (λ long. (meant : Bound Text) → KeptEqScoped bound.old meant → long ≡ list_any (λ b. is_too_long b.1.1) (bound_in meant statement.now.scopes statement.now.kind)) }
+{
+    match statement.said() {
+        Said::Binding(line) => bind_own(alloc, bound, statement.scopes(), &line.read(alloc)?),
+        Said::Build(_) => Ok(false),
+        Said::Directive(_) => Ok(false),
     }
 }

@@ -1,7 +1,7 @@
 use Rattle.std.proofs.Common.{◌≡◌, ◌∙◌, ℕ, List, Option, IfSome, ap}
 use Rattle.std.specs.Result.{result_err}
 use Rattle.rtrb.specs.Ring.{received}
-use Rattle.plan_machine.specs.declared.event.mark.Mark.{Mark}
+use Rattle.plan_machine.specs.declared.event.Mark.{Mark}
 use Rattle.plan_status.specs.Formats.{HasPrinted}
 use Rattle.plan_lanes.specs.SharedRuns.{Ready}
 use Rattle.plan_lanes.specs.declared.board.Report.{Report}

@@ -1,7 +1,7 @@
 use Rattle.std.proofs.Common.{◌≡◌, ◌∙◌, List, Some, sym, arith}
 use Rattle.std.specs.Prelude.{slice_get}
 use Rattle.plan_image.specs.Bodies.{with_operands}
-use Rattle.plan_image.specs.declared.instr.Instr.{Instr}
+use Rattle.plan_image.specs.declared.body.Instr.{Instr}
 use Rattle.plan_compile.proofs.BuildLemmas.{copied_step, get_at}
 use Rattle.plan_compile.proofs.code.fill_body.Goals as goal
 

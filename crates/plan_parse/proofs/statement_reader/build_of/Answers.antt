@@ -1,7 +1,7 @@
 use Rattle.std.proofs.Common.{◌≡◌, ◌≤◌, ℕ, List, Ok, sym, ap, map, take, drop, length, ◌∙◌, arith}
 use Rattle.plan_parse.specs.declared.compact.CompactPath.{CompactPath}
-use Rattle.plan_parse.specs.declared.path_lists.PathPlaces.{PathPlaces}
-use Rattle.plan_parse.specs.declared.path_lists.PathLists.{PathLists}
+use Rattle.plan_parse.specs.declared.compact.PathPlaces.{PathPlaces}
+use Rattle.plan_parse.specs.declared.compact.PathLists.{PathLists}
 use Rattle.plan_parse.specs.BlockLines.{block_lines_of}
 use Rattle.plan_parse.specs.Compact.{line_in, path_in, variable_in}
 use Rattle.plan_parse.specs.PathLists.{added_to, between, lists_at, map_lists}

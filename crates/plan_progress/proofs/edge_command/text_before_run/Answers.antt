@@ -1,6 +1,6 @@
 use Rattle.std.proofs.Common.{◌≡◌, ◌+◌, ℕ, true, false, Option, Some, None, List, ap, sym, ◌∙◌, drop}
 use Rattle.std.specs.Prelude.{slice_get}
-use Rattle.plan_image.specs.declared.instr.Instr.{Instr}
+use Rattle.plan_image.specs.declared.body.Instr.{Instr}
 use Rattle.plan_progress.specs.Command.{is_run, text_before_run}
 use Rattle.plan_progress.proofs.CommandLemmas.{ends, goes_on, runs}
 use Rattle.plan_progress.proofs.edge_command.text_before_run.Goals as goal

@@ -1,7 +1,7 @@
 use Rattle.std.proofs.Common.{rules, ◌≡◌, ◌≤◌, ◌+◌, ◌++◌, List, Option, ℕ, Some, None, true, ap, subst, ◌∙◌, get_or, arith, if◌then◌else◌, take, drop}
 use Rattle.plan_image.specs.declared.image.Parts.{Parts}
-use Rattle.plan_machine.specs.declared.event.mark.Mark.{Mark}
-use Rattle.plan_machine.specs.declared.event.mark.Mark.TheVariants.{Started}
+use Rattle.plan_machine.specs.declared.event.Mark.{Mark}
+use Rattle.plan_machine.specs.declared.event.Mark.TheVariants.{Started}
 use Rattle.plan_status.specs.Lines.{ends, line_of, lines_behind, tells_end}
 use Rattle.plan_status.specs.Printing.{Prints}
 use Rattle.std.proofs.lemmas.List.{length-take-le}

@@ -1,7 +1,7 @@
 use Rattle.std.proofs.Common.{◌≡◌, ◌≤◌, ◌+◌, ◌++◌, List, ℕ, ap, sym, subst, ◌∙◌, get_or, if◌then◌else◌, take, drop}
 use Rattle.plan_image.specs.declared.image.Parts.{Parts}
-use Rattle.plan_machine.specs.declared.event.mark.Mark.{Mark}
-use Rattle.plan_machine.specs.declared.event.mark.Mark.TheVariants.{Started}
+use Rattle.plan_machine.specs.declared.event.Mark.{Mark}
+use Rattle.plan_machine.specs.declared.event.Mark.TheVariants.{Started}
 use Rattle.plan_status.specs.Lines.{ends, line_of, lines_behind, lines_of, tells_end}
 use Rattle.plan_status.proofs.LinesLemmas.{counted_few, counted_next, one_more}
 use Rattle.plan_status.proofs.printing.status_lines.Goals as goal

@@ -1,5 +1,5 @@
 use Rattle.std.proofs.Common.{ℕ, List, Option, subst}
-use Rattle.plan_machine.specs.declared.event.mark.Mark.{Mark}
+use Rattle.plan_machine.specs.declared.event.Mark.{Mark}
 use Rattle.plan_status.specs.declared.fault.PrintFault.{PrintFault}
 use Rattle.plan_status.specs.Formats.{HasPrinted}
 use Rattle.plan_status.proofs.FormatLemmas.{nothing_printed}

@@ -1,6 +1,6 @@
 use Rattle.std.proofs.Common.{◌≡◌, ℕ, List, Option, Some, None, false, subst, sym, ◌∙◌}
 use Rattle.std.specs.Prelude.{is_some}
-use Rattle.plan_machine.specs.declared.event.mark.Mark.{Mark}
+use Rattle.plan_machine.specs.declared.event.Mark.{Mark}
 use Rattle.plan_status.specs.declared.fault.PrintFault.TheVariants.{Write}
 use Rattle.plan_status.specs.Printing.{Prints}
 use Rattle.plan_status.proofs.FormatLemmas.{none_printed, one_printed, stop_stays}

@@ -1,6 +1,6 @@
 use Rattle.std.proofs.Common.{◌≡◌, ◌∙◌, List, ap, subst}
 use Rattle.std.specs.Prelude.{IfOk}
-use Rattle.plan_image.specs.declared.instr.Instr.{Instr}
+use Rattle.plan_image.specs.declared.body.Instr.{Instr}
 use Rattle.plan_image.specs.Bodies.{body_of}
 use Rattle.plan_compile.specs.BodyKeys.{Body, body_at, code_at}
 use Rattle.plan_compile.proofs.BodyKeyLemmas.{body_back}

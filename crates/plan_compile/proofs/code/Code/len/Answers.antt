@@ -1,5 +1,5 @@
 use Rattle.std.proofs.Common.{◌∙◌, List, ℕ, length, ap}
-use Rattle.plan_image.specs.declared.instr.Instr.{Instr}
+use Rattle.plan_image.specs.declared.body.Instr.{Instr}
 use Rattle.plan_compile.specs.BodyKeys.{code_at}
 use Rattle.plan_compile.proofs.CodeLemmas.{key_long}
 use Rattle.plan_compile.proofs.code.Code.len.Goals as goal

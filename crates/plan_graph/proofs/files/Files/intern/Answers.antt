@@ -1,7 +1,7 @@
 use Rattle.std.proofs.Common.{◌≡◌, ◌<◌, ◌∷◌, [], ◌++◌, ◌∙◌, false, true, List, ap, arith, bytes_eq, length, map, sym}
 use Rattle.std.specs.List.{list_any, zip}
 use Rattle.plan_graph.specs.declared.files.File.{File}
-use Rattle.plan_graph.specs.declared.key.Key.{Key}
+use Rattle.plan_graph.specs.declared.files.Key.{Key}
 use Rattle.plan_graph.specs.Files.{Path, Table, file_of, number_of, paths_in, unknown, with_file}
 use Rattle.plan_graph.proofs.FilesLemmas.{among_is, keys_new, keys_old, named_within, number_is, paths_are, table_new, table_old, was_new, was_old}
 use Rattle.plan_graph.proofs.files.Files.intern.Goals as goal

@@ -3,8 +3,8 @@ use Rattle.std.specs.Prelude.{slice_get, slice_index}
 use Rattle.std.proofs.lemmas.Option.{slice_get_within}
 use Rattle.plan_graph.specs.Cycles.{rank_over}
 use Rattle.plan_graph.specs.Walking.{AllDone, IsSound, IsWalk, KeepsMarks, State, left, pending}
-use Rattle.plan_graph.specs.declared.mark.Mark.{Mark}
-use Rattle.plan_graph.specs.declared.mark.Mark.TheVariants.{Done, Open}
+use Rattle.plan_graph.specs.declared.walk.Mark.{Mark}
+use Rattle.plan_graph.specs.declared.walk.Mark.TheVariants.{Done, Open}
 use Rattle.plan_graph.proofs.WalkLemmas.{closes, done_not_new, done_of, left_done, length_end, marks_kept, take_end, top_open}
 use Rattle.plan_graph.proofs.walk.Walk.close.Goals as goal
 

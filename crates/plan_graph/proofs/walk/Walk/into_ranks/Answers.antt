@@ -2,7 +2,7 @@ use Rattle.std.proofs.Common.{◌≡◌, ◌≢◌, ◌<◌, ◌∙◌, [], List
 use Rattle.std.specs.Prelude.{All, slice_get}
 use Rattle.plan_graph.specs.Cycles.{AreRanks}
 use Rattle.plan_graph.specs.Walking.{IsWalk, State}
-use Rattle.plan_graph.specs.declared.mark.Mark.TheVariants.{New}
+use Rattle.plan_graph.specs.declared.walk.Mark.TheVariants.{New}
 use Rattle.plan_graph.proofs.WalkLemmas.{ranks_are, ranks_low}
 use Rattle.plan_graph.proofs.walk.Walk.into_ranks.Goals as goal
 

@@ -1,8 +1,8 @@
 use Rattle.std.proofs.Common.{◌≡◌, ◌∙◌, [], List, ℕ, ap, length, rules, subst, sym}
 use Rattle.std.specs.Prelude.{replicate}
 use Rattle.plan_graph.specs.Walking.{IsWalk}
-use Rattle.plan_graph.specs.declared.mark.Mark.{Mark}
-use Rattle.plan_graph.specs.declared.mark.Mark.TheVariants.{New}
+use Rattle.plan_graph.specs.declared.walk.Mark.{Mark}
+use Rattle.plan_graph.specs.declared.walk.Mark.TheVariants.{New}
 use Rattle.plan_graph.proofs.WalkLemmas.{starts}
 use Rattle.plan_graph.proofs.walk.Walk.new.Goals as goal
 

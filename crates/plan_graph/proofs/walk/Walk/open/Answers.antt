@@ -3,7 +3,7 @@ use Rattle.std.specs.Prelude.{slice_get}
 use Rattle.std.proofs.lemmas.Option.{slice_get_within}
 use Rattle.plan_graph.specs.Cycles.{Chain}
 use Rattle.plan_graph.specs.Walking.{IsWalk, KeepsMarks, State, left}
-use Rattle.plan_graph.specs.declared.mark.Mark.TheVariants.{New, Open}
+use Rattle.plan_graph.specs.declared.walk.Mark.TheVariants.{New, Open}
 use Rattle.plan_graph.proofs.WalkLemmas.{left_open, marks_kept, open_not_new, opened_not_new, opens}
 use Rattle.plan_graph.proofs.walk.Walk.open.Goals as goal
 

@@ -4,8 +4,8 @@ use Rattle.std.proofs.lemmas.Option.{slice_get_within}
 use Rattle.std.proofs.lemmas.List.Elements.{Contains-get_or}
 use Rattle.plan_graph.specs.Cycles.{Chain, WaitsFor}
 use Rattle.plan_graph.specs.Walking.{DoneTo, State}
-use Rattle.plan_graph.specs.declared.mark.Mark.TheVariants as mark
-use Rattle.plan_graph.specs.declared.mark.Mark.TheVariants.{Open}
+use Rattle.plan_graph.specs.declared.walk.Mark.TheVariants as mark
+use Rattle.plan_graph.specs.declared.walk.Mark.TheVariants.{Open}
 use Rattle.plan_graph.proofs.WalkLemmas.{all_done, chain_push, passes, top_open}
 use Rattle.plan_graph.proofs.walk.Walk.pass.Goals as goal
 

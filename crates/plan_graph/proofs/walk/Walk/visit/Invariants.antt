@@ -1,6 +1,6 @@
 use Rattle.std.proofs.Common.{◌≢◌, Some}
 use Rattle.std.specs.Prelude.{slice_get}
-use Rattle.plan_graph.specs.declared.mark.Mark.TheVariants.{New}
+use Rattle.plan_graph.specs.declared.walk.Mark.TheVariants.{New}
 use Rattle.plan_graph.specs.Walking.{GoesOn, left}
 use Rattle.plan_graph.proofs.walk.Walk.visit.Given as goal
 

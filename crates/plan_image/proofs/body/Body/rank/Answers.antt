@@ -1,6 +1,6 @@
 use Rattle.std.proofs.Common.{◌∙◌, ap, List, refl, sym}
 use Rattle.std.specs.Prelude.{slice_get}
-use Rattle.plan_image.specs.declared.instr.BodyInstr.{BodyInstr}
+use Rattle.plan_image.specs.declared.body.BodyInstr.{BodyInstr}
 use Rattle.plan_image.specs.Bodies.{instr_with_rank, with_operands}
 use Rattle.plan_image.proofs.BodyLemmas.{instr_is_found}
 use Rattle.plan_image.proofs.body.Body.rank.Goals as goal

@@ -1,5 +1,5 @@
 use Rattle.std.proofs.Common.{◌≡◌, ◌∙◌, ℕ, ap, length, refl, subst, sym}
-use Rattle.plan_machine.specs.declared.event.mark.Mark.TheVariants as mark
+use Rattle.plan_machine.specs.declared.event.Mark.TheVariants as mark
 use Rattle.std.specs.Prelude.{IfSome}
 use Rattle.plan_image.specs.declared.image.Parts.{Parts}
 use Rattle.plan_status.specs.Consoles.{is_console}

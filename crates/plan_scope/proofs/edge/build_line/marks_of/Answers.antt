@@ -1,5 +1,5 @@
 use Rattle.std.proofs.Common.{◌∙◌, ap}
-use Rattle.plan_scope.specs.declared.edge.edge_rows.EdgeMarks.{EdgeMarks}
+use Rattle.plan_scope.specs.declared.edge.edge_list.EdgeMarks.{EdgeMarks}
 use Rattle.plan_scope.specs.Edges.{is_present}
 use Rattle.plan_scope.proofs.EdgeRowLemmas.{begins_still, more_far, text_stays, texts_put}
 use Rattle.plan_scope.proofs.edge.build_line.marks_of.Goals as goal

@@ -2,7 +2,7 @@ use Rattle.std.proofs.Common.{◌∙◌, true, [], Result, Err, ap, subst, sym}
 use Rattle.std.proofs.lemmas.Result.{err_from_is_err_and}
 use Rattle.plan_scope.specs.declared.edge.paths.PathTexts.{PathTexts}
 use Rattle.plan_scope.specs.declared.fault.Cause.{Cause}
-use Rattle.plan_scope.specs.declared.edge.edge_rows.EdgeRows.{EdgeRows}
+use Rattle.plan_scope.specs.declared.edge.edge_list.EdgeRows.{EdgeRows}
 use Rattle.plan_scope.specs.Edge.{Edge}
 use Rattle.plan_scope.specs.Edges.{edge_or_refusal, phony_variables, environment_of}
 use Rattle.plan_scope.specs.EdgeAnswers.{GivesEdge}

@@ -1,6 +1,6 @@
 use Rattle.std.proofs.Common.{◌∙◌, List, ap, arith, map}
 use Rattle.plan_text.specs.declared.piece_reader.Piece.{Piece}
-use Rattle.plan_parse.specs.declared.path_lists.PathLists.{PathLists}
+use Rattle.plan_parse.specs.declared.compact.PathLists.{PathLists}
 use Rattle.plan_parse.specs.Lines.{paths_in}
 use Rattle.plan_parse.specs.PathLists.{map_lists}
 use Rattle.plan_scope.specs.Edges.{Paths, canonical_paths, near, paths_of, path_of}

@@ -4,7 +4,7 @@ use Rattle.plan_text.specs.declared.piece_reader.Piece.{Piece}
 use Rattle.plan_parse.specs.declared.statement.DirectiveKind.{DirectiveKind}
 use Rattle.plan_parse.specs.Compact.{kind_of}
 use Rattle.plan_parse.specs.Kinds.{StatementKind}
-use Rattle.plan_scope.specs.declared.edge.edge_rows.EdgeRows.{EdgeRows}
+use Rattle.plan_scope.specs.declared.edge.edge_list.EdgeRows.{EdgeRows}
 use Rattle.plan_scope.specs.EdgeRows.{AreWithin}
 use Rattle.plan_scope.specs.Scopes.{Name, Text, Bindings, ScopedBindings, bound_by, expand, frame, in_own, last_of, lookup}
 use Rattle.plan_scope.specs.Edges.{builds_of, defaults_alone, manifest_of_kind, is_among, late, map_ok, empty_manifest, paths_of, pool_alone, pool_by, pools_of, targets_by}

@@ -2,7 +2,7 @@ use Rattle.std.proofs.Common.{◌≡◌, ◌∙◌, [], Bool, List, ℕ, Some, t
 use Rattle.std.specs.Prelude.{bytes_eq, codes}
 use Rattle.plan_scope.specs.declared.fault.Cause.{Cause}
 use Rattle.plan_scope.specs.Edge.{Edge}
-use Rattle.plan_scope.specs.declared.manifest.found_rules.FoundRule.{FoundRule}
+use Rattle.plan_scope.specs.declared.manifest.rules.FoundRule.{FoundRule}
 use Rattle.plan_scope.specs.Scopes.{nearest}
 use Rattle.plan_scope.specs.Edges.{edge_of_rule, edge_or_refusal, phony_variables, environment_of}
 use Rattle.plan_scope.specs.Found.{AreFound}

@@ -1,7 +1,7 @@
 use Rattle.std.proofs.Common.{◌≡◌, ◌≤◌, ◌+◌, ◌∷◌, ◌++◌, [], ℕ, arith, get_or, refl, subst, sym, take}
 use Rattle.std.proofs.lemmas.List.{length-take-le, take_more}
-use Rattle.plan_machine.specs.declared.event.mark.Mark.{Mark as Told}
-use Rattle.plan_machine.specs.declared.event.mark.Mark.TheVariants.{Started}
+use Rattle.plan_machine.specs.declared.event.Mark.{Mark as Told}
+use Rattle.plan_machine.specs.declared.event.Mark.TheVariants.{Started}
 use Rattle.plan_status.specs.declared.consoles.Consoles.{Consoles}
 use Rattle.plan_status.specs.Consoles.{AreFree, AreNoted, HasLooked}
 use Rattle.plan_status.proofs.ConsolesLemmas.{looked_free, looked_held}

@@ -1,6 +1,6 @@
 use Rattle.std.proofs.Common.{◌∷◌, ◌++◌, [], ◌∙◌, true, false, refl, subst, sym}
-use Rattle.plan_machine.specs.declared.event.mark.Mark.{Mark as Told}
-use Rattle.plan_machine.specs.declared.event.mark.Mark.TheVariants as mark
+use Rattle.plan_machine.specs.declared.event.Mark.{Mark as Told}
+use Rattle.plan_machine.specs.declared.event.Mark.TheVariants as mark
 use Rattle.plan_status.specs.Consoles.{AreNoted}
 use Rattle.plan_status.proofs.ConsolesLemmas.{noted_kept, noted_set, silent, took_other}
 use Rattle.plan_status.proofs.consoles.Consoles.note.Goals as goal

@@ -1,6 +1,6 @@
 use Rattle.std.proofs.Common.{◌≡◌, ◌+◌, ◌∷◌, ◌++◌, [], List, Option, ℕ, ap, append_assoc, arith, length, subst, sym, ◌∙◌}
 use Rattle.rtrb.specs.Ring.{known_items, received, sent}
-use Rattle.plan_machine.specs.declared.event.mark.Mark.{Mark}
+use Rattle.plan_machine.specs.declared.event.Mark.{Mark}
 use Rattle.plan_status.specs.Formats.{HasPrinted}
 use Rattle.plan_status.proofs.tap.Tap.drain.Goals as goal
 

@@ -1,6 +1,6 @@
 use Rattle.std.proofs.Common.{◌≡◌, ℕ, List, Option, ap, subst, sym, take, ◌∙◌}
 use Rattle.rtrb.specs.Ring.{received}
-use Rattle.plan_machine.specs.declared.event.mark.Mark.{Mark}
+use Rattle.plan_machine.specs.declared.event.Mark.{Mark}
 use Rattle.plan_status.specs.declared.fault.PrintFault.{PrintFault}
 use Rattle.plan_status.specs.Formats.{HasPrinted}
 use Rattle.plan_status.proofs.tap.Tap.settle.Goals as goal

@@ -1,5 +1,5 @@
 use Rattle.std.proofs.Common.{◌∙◌, ap, drop, List}
-use Rattle.plan_image.specs.declared.instr.Kind.{Kind}
+use Rattle.plan_image.specs.declared.body.Kind.{Kind}
 use Rattle.plan_verify.proofs.KindsLemmas.{dropped}
 use Rattle.plan_verify.proofs.kinds.Kinds.cut.Goals as goal
 

@@ -1,8 +1,8 @@
 use Rattle.std.proofs.Common.{◌≡◌, Some, true, ap, sym, subst, ◌∙◌}
 use Rattle.std.specs.Prelude.{slice_get}
 use Rattle.plan_image.specs.Code.{code}
-use Rattle.plan_image.specs.declared.instr.Instr.{Instr}
-use Rattle.plan_image.specs.declared.instr.Instr.TheVariants as op
+use Rattle.plan_image.specs.declared.body.Instr.{Instr}
+use Rattle.plan_image.specs.declared.body.Instr.TheVariants as op
 use Rattle.plan_verify.specs.Turn.{Local}
 use Rattle.plan_machine.specs.Working.{IsSweeping}
 use Rattle.plan_machine.proofs.AskingLemmas.{sweeps_in}

@@ -1,4 +1,4 @@
-use Rattle.plan_machine.specs.declared.event.mark.Mark.TheVariants.{Moved}
+use Rattle.plan_machine.specs.declared.event.Mark.TheVariants.{Moved}
 use Rattle.plan_machine.proofs.Applies.{settle_within, step_active, step_is}
 use Rattle.plan_machine.proofs.run.machine.Machine.step.Goals as goal
 

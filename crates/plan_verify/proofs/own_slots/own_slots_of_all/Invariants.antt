@@ -1,5 +1,0 @@
-use Rattle.plan_verify.specs.OwnSlots.{AreCounted}
-use Rattle.plan_verify.proofs.own_slots.own_slots_of_all.Given as goal
-
-abbrev pub invariant-loop-slot : goal.invariant-loop-slot
-invariant-loop-slot l = AreCounted l.parts l.slot-index l.edges.items
