@@ -3,8 +3,9 @@
 
 They say nothing wrong and are of no use: lanes that work one after another, or a call that always answers want of
 memory. Such an edit names, in its line `tests:`, a crate of tests and one of its tests. On copies of the tree the test
-has to pass (`rt try`, which proves nothing), and has to fail once the edit is made. Two tests run side by side. The
-last line is `N passed, M failed`.
+has to pass (`rt try`, which proves nothing), and has to fail once the edit is made. With --tests-passed it isn't run
+without the edit, since `rt ci` has just run all tests on these sources. Two tests run side by side. The last line is
+`N passed, M failed`.
 """
 from __future__ import annotations
 
@@ -62,16 +63,19 @@ def tried(test: Test, edit: Edit | None) -> str:
 def main() -> None:
     parser = argparse.ArgumentParser(description=__doc__, formatter_class=argparse.RawDescriptionHelpFormatter)
     parser.add_argument("crates", metavar="CRATE", nargs="*", help="whose wrong bodies (of all crates without any)")
+    parser.add_argument("--tests-passed", action="store_true", help="rt ci has just run all tests on these sources")
     asked = parser.parse_args()
     paths = sorted((ROOT / "tests" / "wrong_bodies").glob("*/*.edit"))
     edits = {path: read(path) for path in paths if not asked.crates or path.parent.name in asked.crates}
     passed = failed = 0
     with concurrent.futures.ThreadPoolExecutor(SIDE_BY_SIDE) as lanes:
-        without = {test: lanes.submit(tried, test, None) for test in {edit.test: None for edit in edits.values()}}
+        tests = {edit.test: None for edit in edits.values() if not asked.tests_passed}
+        without = {test: lanes.submit(tried, test, None) for test in tests}
         within = {path: lanes.submit(tried, edit.test, edit) for path, edit in edits.items()}
         for path, edit in edits.items():
-            before, after = without[edit.test].result(), within[path].result()
-            refused = before.startswith(PASSED) and after.startswith(FAILED)
+            before = without[edit.test].result() if without else "passed"
+            after = within[path].result()
+            refused = before.startswith((PASSED, "passed")) and after.startswith(FAILED)
             print(f"{path.relative_to(ROOT)}\n  without it: {before}\n  with it: {after}", flush=True)
             if not refused:
                 print("  NOT REFUSED")
