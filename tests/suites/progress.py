@@ -1,7 +1,8 @@
 """Builds trees with plan_build, and compares all that it prints with the text that plan_progress defines (BuildLines).
 
 Each line `[n/m] LABEL` comes right before the output of its command, whatever runs at the same time. If ninja is
-installed, the lines of a build after one change must be ninja's, and so must the sentence on a missing source.
+installed, the lines of a build after one change must be ninja's, and so must the sentence on a missing source and the
+text before labels by NINJA_STATUS, in a pipe and on a terminal.
 """
 from __future__ import annotations
 
@@ -338,11 +339,14 @@ class Screen:
         self.column += 1
 
 
-def on_terminal(builder: str, folder: pathlib.Path, kind: str, *words: str) -> tuple[bytes, int]:
-    """Builds with standard output on a terminal of this kind, and returns what was written to it, and the status."""
+def on_terminal(builder: str, folder: pathlib.Path, kind: str, *words: str, **more: str) -> tuple[bytes, int]:
+    """Builds with standard output on a terminal of this kind, and returns what was written to it, and the status.
+
+    `more` are variables of the environment.
+    """
     terminal, other = pty.openpty()
     done = subprocess.Popen([builder, *words], cwd=folder, stdin=subprocess.DEVNULL, stdout=other, stderr=other,
-                            env={"PATH": "/usr/bin:/bin", "TERM": kind})
+                            env={"PATH": "/usr/bin:/bin", "TERM": kind, **more})
     os.close(other)
     shown = b""
     while True:
@@ -389,6 +393,104 @@ def dumb_terminal(builder: str, folder: pathlib.Path) -> None:
     expect("shown", (b"[1/2] a\r\n[2/2] b\r\n", 0), on_terminal(builder, folder, "dumb", "-j", "1"))
 
 
+# ---- the text before a label
+
+SIDE_BY_SIDE = (Edge("a", "while ! [ -e gate ]; do sleep 0.02; done; sleep 0.2; touch $out"),
+                Edge("b", "sleep 0.2; touch gate $out"), Edge("c", "touch $out", "a b"))
+NUMBERS = "%s/%t %p %r %u %f%%: "
+TEMPLATES = {
+    "numbers": (NUMBERS, ["1/3  33% 1 2 1%: a", "2/3  66% 1 1 2%: b", "3/3 100% 1 0 3%: c"]),
+    "no text": ("", ["a", "b", "c"]),
+    "text only": ("» 100%%s ", ["» 100%s a", "» 100%s b", "» 100%s c"]),
+    "unmeasured": ("[%E %c] ", [f"[? ?] {name}" for name in "abc"]),
+}
+IN_ORDER = (Edge("a", "touch $out"), Edge("b", "touch $out", "a"), Edge("c", "touch $out", "b"))
+REFUSED = {"%f %x": "x", "%": "\0", "%f %%%": "\0", "%y": "y"}
+
+
+def with_template(template: str, builder: str, folder: pathlib.Path, *words: str) -> Tuple[str, str, int]:
+    """Builds with this NINJA_STATUS, and returns what was printed, the errors, and the status."""
+    done = subprocess.run([builder, *words], cwd=folder, stdin=subprocess.DEVNULL, capture_output=True,
+                          timeout=programs.SECONDS, env={**os.environ, "NINJA_STATUS": template})
+    return done.stdout.decode(), done.stderr.decode(), done.returncode
+
+
+def template_is_shown(template: str, lines: Sequence[str], builder: str, folder: pathlib.Path) -> None:
+    """Each label comes after the text of the template, as with ninja if all of it is measured."""
+    write(folder, IN_ORDER)
+    said = ("".join(f"{line}\n" for line in lines), "", 0)
+    expect("said", said, with_template(template, builder, folder, "-j", "1"))
+    ninja = shutil.which("ninja")
+    if ninja and "%E" not in template:
+        for edge in IN_ORDER:
+            (folder / edge.name()).unlink()
+        expect("ninja said", said, with_template(template, ninja, folder, "-j", "1"))
+
+
+def numbers_side_by_side(builder: str, folder: pathlib.Path) -> None:
+    """Two commands run at once. The first one that ends still counts as one that runs, as with ninja."""
+    ninja = shutil.which("ninja")
+    for program in [builder] + [ninja] * (ninja is not None):
+        place = folder / pathlib.Path(program).name
+        place.mkdir()
+        write(place, SIDE_BY_SIDE)
+        said = "2/3  33% 2 1 1%: b\n2/3  66% 1 1 2%: a\n3/3 100% 1 0 3%: c\n"
+        expect(f"{program} said", (said, "", 0), with_template(NUMBERS, program, place, "-j", "2"))
+
+
+def missing_source_has_started(builder: str, folder: pathlib.Path) -> None:
+    """An edge with a missing source counts as started, so the number of commands that run stays right."""
+    write(folder, [Edge("a", "touch $out", "nosuch"), Edge("b", "touch $out"), Edge("c", "touch $out", "b")])
+    printed, error, status = with_template(NUMBERS, builder, folder, "-j", "1", "-k", "0")
+    expect("errors and status", ("", 1), (error, status))
+    expect("last label", "3/3 100% 1 0 3%: c", [line for line in printed.splitlines() if "%: " in line][-1])
+
+
+def times(builder: str, folder: pathlib.Path) -> None:
+    """`%e` is the time since the build began, and `%o` the number of commands that have finished, divided by it."""
+    ninja = shutil.which("ninja")
+    for program in [builder] + [ninja] * (ninja is not None):
+        place = folder / pathlib.Path(program).name
+        place.mkdir()
+        write(place, [Edge("a", "sleep 0.3; touch $out"), Edge("b", "sleep 0.3; touch $out", "a")])
+        begun = time.monotonic()
+        printed, error, status = with_template("%f %e %o ", program, place)
+        whole = time.monotonic() - begun
+        expect("errors and status", ("", 0), (error, status))
+        for number, line in enumerate(printed.splitlines(), 1):
+            said = re.fullmatch(rf"{number} (\d+\.\d\d\d) (\d+\.\d) [ab]", line)
+            check(said is not None, f"{program} said {line!r}")
+            assert said
+            passed, rate = float(said[1]), float(said[2])
+            check(0.29 * number <= passed <= whole, f"{program} said {line!r} of a build of {whole} seconds")
+            check(abs(rate - number / passed) <= 0.06, f"{program} said {line!r}")
+
+
+def numbers_on_terminal(builder: str, folder: pathlib.Path) -> None:
+    """A command that starts shows numbers too, and so does ninja."""
+    ninja = shutil.which("ninja")
+    wanted = ["1/2   0% 1 1 0%: a", "1/2  50% 1 1 1%: a", "2/2  50% 1 0 1%: b", "2/2 100% 1 0 2%: b"]
+    for program in [builder] + [ninja] * (ninja is not None):
+        place = folder / pathlib.Path(program).name
+        place.mkdir()
+        write(place, IN_ORDER[:2])
+        shown, status = on_terminal(program, place, "xterm", "-j", "1", NINJA_STATUS=NUMBERS)
+        lines = [re.sub(rb"\x1b\[[?0-9]*[a-zA-Z]", b"", line).strip().decode() for line in shown.split(b"\r")]
+        expect(f"{program} showed", (wanted, 0), ([line for line in lines if line], status))
+
+
+def unknown_placeholder(template: str, byte: str, builder: str, folder: pathlib.Path) -> None:
+    """A template with an unknown placeholder is refused before a command runs, in ninja's words."""
+    write(folder, IN_ORDER)
+    error = f"ninja: fatal: unknown placeholder '%{byte}' in $NINJA_STATUS\n"
+    expect("said", ("", error, 1), with_template(template, builder, folder))
+    check(not (folder / "a").exists(), "a command ran")
+    expect("errors and status of a tool", ("", 0), with_template(template, builder, folder, "-t", "targets")[1:])
+    ninja = shutil.which("ninja")
+    if ninja:
+        expect("ninja said", ("", error, 1), with_template(template, ninja, folder))
+
+
 def cases(setting: Setting) -> Iterator[Case]:
     """Yields builds whose commands run side by side, then texts, and numbers."""
     builder = programs.front(setting.program)
@@ -404,10 +506,15 @@ def cases(setting: Setting) -> Iterator[Case]:
         yield Case(f"output {redirection}", functools.partial(lost, redirection, builder))
     for name, edges, words, status, rows in SHOWN:
         yield Case(f"terminal {name}", functools.partial(screen_is, edges, words, status, rows, builder))
+    for name, (template, lines) in TEMPLATES.items():
+        yield Case(f"template {name}", functools.partial(template_is_shown, template, lines, builder))
+    for template, byte in REFUSED.items():
+        yield Case(f"template {template}", functools.partial(unknown_placeholder, template, byte, builder))
     yield Case("dumb terminal", functools.partial(dumb_terminal, builder))
     yield Case("ninja's counts", ninja_counts)
     trials: Tuple[Callable[[str, pathlib.Path], None], ...] = (
         failures_side_by_side, while_the_console_is_used, manifest_made_again, large, failure_among_many,
-        clean_after_a_restat, missing_with_others)
+        clean_after_a_restat, missing_with_others, numbers_side_by_side, missing_source_has_started,
+        times, numbers_on_terminal)
     for trial in trials:
         yield Case(trial.__name__.replace("_", " "), functools.partial(trial, builder))

@@ -10,9 +10,8 @@ use Rattle.plan_options.specs.declared.argument.Argument.{Argument}
 use Rattle.plan_options.specs.declared.argument.Flag.{Flag}
 use Rattle.plan_options.specs.declared.argument.Flag.TheVariants as flag
 use Rattle.plan_options.specs.declared.argument.Setting.TheVariants as setting
-use Rattle.plan_progress.specs.BuildLines.{TellsBuild}
+use Rattle.plan_progress.specs.BuildLines.{Look, TellsBuild, look_of}
 use Rattle.plan_progress.specs.declared.build_lines.BuildLines.{BuildLines}
-use Rattle.plan_progress.specs.declared.display.Display.{Display}
 use Rattle.plan_progress.specs.declared.style.Style.{Style}
 use Rattle.plan_progress.specs.declared.style.Style.TheVariants as style
 use Rattle.plan_commands.specs.Showing.{Shown, by_format}
@@ -46,14 +45,15 @@ style_of other = style.Labels
 abbrev pub style_in : List Argument → Style
 style_in line = style_of (verbosity line)
 
--- How the text of a build is shown: commands in this style, and perhaps on a terminal.
-abbrev pub display_in : List Argument → Bool → Display
-display_in line on_terminal = record { style = style_in line; on_terminal = on_terminal }
+-- How the text of a build is shown: commands in this style, perhaps on a terminal, and after the text of this template.
+abbrev pub display_in : List Argument → Bool → (template : List ℕ) → Look
+display_in line on_terminal template = record { style = style_in line; on_terminal = on_terminal; template = template }
 
--- Runs are shown as the text of a build, in this way. An H gives the outputs of commands; `taken` says which ones.
-abbrev pub as_build : (H : Type 0) → (H → List ℕ → Option (List ℕ) → Type 0) → Display → Shown
-as_build H taken display =
-    by_format (λ (f : BuildLines H). f.display) (λ (f : BuildLines H). TellsBuild (taken f.outputs.now) f.display f.counts f.line_open) display
+-- Runs are shown as the text of a build, in this way. An H gives the outputs of commands, and the time: `taken` says
+-- which outputs, and `showed` which milliseconds.
+abbrev pub as_build : (H : Type 0) → (H → List ℕ → Option (List ℕ) → Type 0) → (H → ℕ → Type 0) → Look → Shown
+as_build H taken showed look =
+    by_format (λ (f : BuildLines H). look_of f.display) (λ (f : BuildLines H). TellsBuild (taken f.outputs.now) (showed f.outputs.now) (look_of f.display) f.counts f.line_open) look
 
 -- A manifest may have any contents, and reading it may fail.
 abbrev pub any_contents : FileContents

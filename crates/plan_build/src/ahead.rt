@@ -7,7 +7,7 @@ use crate::refusal::refuse_record;
 use crate::words::manifest_in;
 use plan_lanes::World;
 use plan_options::CommandLine;
-use plan_progress::Outputs;
+use plan_progress::{Outputs, Stopwatch};
 use plan_stamps::StampCache;
 use plan_text::RowList;
 use plan_world::{OpenFault, RealWorld, SharedFile};
@@ -69,7 +69,7 @@ impl<
     R: Threads + Wait + Sync + Files + Print + Eprint + AllocGlobal,
     E: Print,
     W: World + RecordedWorld + Send + Sync,
-    H: Outputs + Sync,
+    H: Outputs + Stopwatch + Sync,
 > Builder<'_, R, E, StampCache<'_, R, W>, H> {
     /// Builds as `build_line` does. Meanwhile another thread reads the record, and this many threads ask for stamps. If
     /// the record can't be used, that is reported when the build has ended. Returns the exit status.

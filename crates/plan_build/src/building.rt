@@ -4,6 +4,7 @@ ghost use Rattle.std.specs.Prelude.{◌≡◌, IfErr, IfOk, Ok, false, map};
 ghost use Rattle.plan_options.specs.Saying.{is_dry_run};
 ghost use Rattle.plan_commands.specs.Building.{asked, exit_status};
 ghost use Rattle.plan_commands.specs.declared.building.Done.{Done};
+ghost use Rattle.plan_progress.specs.BuildLines.{look_of};
 ghost use Rattle.plan_build.specs.Statuses as statuses;
 ghost use Rattle.plan_build.specs.Statuses.{Ended, HasUnknownTarget, SaysBuilt, as_build, display_in};
 
@@ -18,7 +19,7 @@ use plan_commands::{
 use plan_lanes::World;
 use plan_machine::Options;
 use plan_options::CommandLine;
-use plan_progress::{BuildLines, Display, Outputs};
+use plan_progress::{BuildLines, Display, Outputs, Stopwatch};
 use std::rt::Files;
 use std::sync::{Mutex, Wait};
 use std::thread::{Parker, Threads};
@@ -35,10 +36,12 @@ pub struct Builder<'a, R, E, W, H> {
     pub errors: &'a E,
     /// The world that replies to the build's questions.
     pub world: &'a W,
-    /// What commands printed and what isn't shown yet.
+    /// What commands printed and what isn't shown yet, and the time.
     pub outputs: &'a H,
     /// Whether standard output is a terminal on which lines are written over.
     pub on_terminal: bool,
+    /// The template of the text before a label.
+    pub template: &'a [u8],
     /// The lock of standard output.
     pub screen: &'a Mutex<()>,
     /// Unparked before a command starts, so that the lines so far are printed first.
@@ -53,6 +56,7 @@ impl<'a, R, E, W, H> Builder<'a, R, E, W, H> {
         world: &'a W,
         outputs: &'a H,
         on_terminal: bool,
+        template: &'a [u8],
         screen: &'a Mutex<()>,
         parker: &'a Parker,
     ) -> Builder<'a, R, E, W, H> {
@@ -62,6 +66,7 @@ impl<'a, R, E, W, H> Builder<'a, R, E, W, H> {
             world,
             outputs,
             on_terminal,
+            template,
             screen,
             parker,
         }
@@ -72,15 +77,16 @@ impl<
     R: Threads + Wait + Sync + Files + Print + Eprint + AllocGlobal,
     E: Print,
     W: World + Send + Sync,
-    H: Outputs + Sync,
+    H: Outputs + Stopwatch + Sync,
 > Builder<'_, R, E, W, H> {
     /// Returns what shows the runs of a build.
     fn printer(&self, line: &CommandLine) -> BuildPrinter<'_, R, H>
-        ensures { result.format.display ≡ display_in line.now self.now.on_terminal }
+        ensures { look_of result.format.display ≡ display_in line.now self.now.on_terminal self.now.template.now }
     {
         let display = Display {
             style: style_in(line),
             on_terminal: self.on_terminal,
+            template: self.template,
         };
         Printer {
             format: BuildLines::new(self.outputs, display),
@@ -96,9 +102,9 @@ impl<
         targets: &[&[u8]],
     ) -> (Result<Done, PlanFault>, u64)
         ensures done { let a = asked (statuses.manifest_in line.now) options (map (λ n. n.now) targets.now) in
-            IfOk result.0 (λ done. Ended (as_build H H.taken (display_in line.now self.now.on_terminal)) W.allows a done) }
+            IfOk result.0 (λ done. Ended (as_build H H.taken H.showed (display_in line.now self.now.on_terminal self.now.template.now)) W.allows a done) }
         ensures unknown { let a = asked (statuses.manifest_in line.now) options (map (λ n. n.now) targets.now) in
-            IfErr result.0 (λ fault. fault.number ≡ 132 → HasUnknownTarget (as_build H H.taken (display_in line.now self.now.on_terminal)) W.allows a) }
+            IfErr result.0 (λ fault. fault.number ≡ 132 → HasUnknownTarget (as_build H H.taken H.showed (display_in line.now self.now.on_terminal self.now.template.now)) W.allows a) }
     {
         let (rt, alloc) = (self.rt, self.rt.alloc());
         let order = Order {
@@ -155,9 +161,9 @@ impl<
         targets: &[&[u8]],
     ) -> (Result<Done, PlanFault>, u64)
         ensures done { let a = asked (statuses.manifest_in line.now) options (map (λ n. n.now) targets.now) in
-            is_dry_run line.now ≡ false → IfOk result.0 (λ done. Ended (as_build H H.taken (display_in line.now self.now.on_terminal)) W.allows a done) }
+            is_dry_run line.now ≡ false → IfOk result.0 (λ done. Ended (as_build H H.taken H.showed (display_in line.now self.now.on_terminal self.now.template.now)) W.allows a done) }
         ensures unknown { let a = asked (statuses.manifest_in line.now) options (map (λ n. n.now) targets.now) in
-            is_dry_run line.now ≡ false → IfErr result.0 (λ fault. fault.number ≡ 132 → HasUnknownTarget (as_build H H.taken (display_in line.now self.now.on_terminal)) W.allows a) }
+            is_dry_run line.now ≡ false → IfErr result.0 (λ fault. fault.number ≡ 132 → HasUnknownTarget (as_build H H.taken H.showed (display_in line.now self.now.on_terminal self.now.template.now)) W.allows a) }
     {
         if line.is_dry_run() {
             self.preview(line, options, targets)
@@ -199,7 +205,7 @@ impl<
     /// Builds the targets of a command line. At most `jobs` commands run at once if `-j` isn't given. Returns the exit
     /// status.
     pub fn build_line(&self, line: &CommandLine, jobs: u8) -> u8
-        ensures { SaysBuilt (as_build H H.taken (display_in line.now self.now.on_terminal)) W.allows line.now jobs result }
+        ensures { SaysBuilt (as_build H H.taken H.showed (display_in line.now self.now.on_terminal self.now.template.now)) W.allows line.now jobs result }
     {
         let alloc = self.rt.alloc();
         let (Some(options), Ok(targets)) = (

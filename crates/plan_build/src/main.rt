@@ -12,6 +12,7 @@ mod said;
 mod sentences;
 mod shells;
 mod stopping;
+mod template;
 mod tool;
 mod words;
 
@@ -21,6 +22,7 @@ use crate::refusal::{refuse, refuse_loading, refuse_record};
 use crate::said::{REFUSED, complain, complain_of, say};
 use crate::shells::{BuildShells, is_smart_terminal, wants_escapes};
 use crate::stopping::{stop_at, warn};
+use crate::template::read_template;
 use crate::tool::{request_in, run_tool, tool_named, unknown_tool};
 use crate::words::{MANIFEST, RECORD, after_name, manifest_in, name_in, words_in};
 use plan_commands::{no_memory, open_streams};
@@ -283,6 +285,10 @@ fn main(rt: HostRuntime) -> ExitCode {
         Ok(line) => line,
         Err(status) => return ExitCode::from(status),
     };
+    let template = match read_template(&rt, &errors) {
+        Ok(template) => template,
+        Err(status) => return ExitCode::from(status),
+    };
     let outputs = HeldOutputs::new(rt.alloc(), &rt);
     let world = match open_world(&rt, &errors, &line, &outputs) {
         Ok(world) => world,
@@ -299,6 +305,7 @@ fn main(rt: HostRuntime) -> ExitCode {
         &world,
         &outputs,
         is_smart_terminal(&rt),
+        template.as_bytes(),
         world.inner().screen(),
         world.inner().parker(),
     );

@@ -3,9 +3,8 @@ use Rattle.std.proofs.Common.{◌≡◌, ℕ, List, refl}
 use Rattle.plan_image.specs.declared.image.Parts.{Parts}
 use Rattle.plan_verify.specs.declared.value.Cause.{Cause}
 use Rattle.plan_verify.specs.declared.value.Cause.TheVariants.{MissingInput, StatFault, Exit, Signal, NotStarted, DepfileFault, DepfileMalformed, RecordFault, TextTooLong}
-use Rattle.plan_progress.specs.declared.counts.Counts.{Counts}
-use Rattle.plan_progress.specs.declared.display.Display.{Display}
-use Rattle.plan_progress.specs.BuildLines.{edge_line, failed_text, failure_line, failure_text}
+use Rattle.plan_progress.specs.declared.numbers.Numbers.{Numbers}
+use Rattle.plan_progress.specs.BuildLines.{Look, edge_line, failed_text, failure_line, failure_text}
 
 pub other_cause : (p : Parts) (e : ℕ) (cause : Cause) (output : List ℕ) → ((f : ℕ) → cause ≡ MissingInput f → ⊥) → failed_text p e cause output ≡ failure_text p e cause output
 other_cause p e (MissingInput f) output not_missing = absurd (not_missing f refl)
@@ -18,13 +17,13 @@ other_cause p e (DepfileMalformed n offset) output not_missing = refl
 other_cause p e RecordFault output not_missing = refl
 other_cause p e TextTooLong output not_missing = refl
 
-pub other_line : (d : Display) (p : Parts) (total : ℕ) (c : Counts) (e : ℕ) (cause : Cause) → ((f : ℕ) → cause ≡ MissingInput f → ⊥) → edge_line d p total c e ≡ failure_line d p total c e cause
-other_line d p total c e (MissingInput f) not_missing = absurd (not_missing f refl)
-other_line d p total c e StatFault not_missing = refl
-other_line d p total c e (Exit n) not_missing = refl
-other_line d p total c e Signal not_missing = refl
-other_line d p total c e NotStarted not_missing = refl
-other_line d p total c e DepfileFault not_missing = refl
-other_line d p total c e (DepfileMalformed n offset) not_missing = refl
-other_line d p total c e RecordFault not_missing = refl
-other_line d p total c e TextTooLong not_missing = refl
+pub other_line : (d : Look) (p : Parts) (n : Numbers) (e : ℕ) (cause : Cause) → ((f : ℕ) → cause ≡ MissingInput f → ⊥) → edge_line d p n e ≡ failure_line d p n e cause
+other_line d p n e (MissingInput f) not_missing = absurd (not_missing f refl)
+other_line d p n e StatFault not_missing = refl
+other_line d p n e (Exit m) not_missing = refl
+other_line d p n e Signal not_missing = refl
+other_line d p n e NotStarted not_missing = refl
+other_line d p n e DepfileFault not_missing = refl
+other_line d p n e (DepfileMalformed m offset) not_missing = refl
+other_line d p n e RecordFault not_missing = refl
+other_line d p n e TextTooLong not_missing = refl

@@ -10,11 +10,11 @@ use Rattle.plan_image.specs.declared.image.Parts.{Parts}
 use Rattle.plan_verify.specs.declared.value.Cause.TheVariants as cause
 use Rattle.plan_machine.specs.declared.event.Mark.{Mark}
 use Rattle.plan_machine.specs.declared.event.Mark.TheVariants.{Started, Took, Ended, Failed, Skipped, Stopped}
-use Rattle.plan_progress.specs.declared.display.Display.{Display}
 use Rattle.plan_progress.specs.declared.style.Style.{Style}
 use Rattle.plan_progress.specs.declared.style.Style.TheVariants.{Labels, Commands, Failures}
 use Rattle.plan_progress.specs.Command.{text_before_run}
-use Rattle.plan_progress.specs.BuildLines.{Entry, first_line, text_of}
+use Rattle.plan_progress.specs.BuildLines.{Entry, Look, first_line, text_of}
+use Rattle.plan_progress.specs.Template.{template_text, unknown_placeholder}
 
 -- the code of an edge that runs a text
 abbrev running : ℕ → List Instr
@@ -38,21 +38,21 @@ build = record {
 abbrev line : List ℕ → List ℕ
 line text = text ++ 10 ∷ []
 
-abbrev in_pipe : Style → Display
-in_pipe style = record { style = style; on_terminal = false }
+abbrev in_pipe : Style → Look
+in_pipe style = record { style = style; on_terminal = false; template = codes "[%f/%t] " }
 
-abbrev on_terminal : Style → Display
-on_terminal style = record { style = style; on_terminal = true }
+abbrev on_terminal : Style → Look
+on_terminal style = record { style = style; on_terminal = true; template = codes "[%f/%t] " }
 
 -- carriage return, erase the line, don't wrap; the text; wrap again
 abbrev over : List ℕ → List ℕ
 over text = 13 ∷ 27 ∷ 91 ∷ 75 ∷ 27 ∷ 91 ∷ 63 ∷ 55 ∷ 108 ∷ text ++ 27 ∷ 91 ∷ 63 ∷ 55 ∷ 104 ∷ []
 
 abbrev with_output : Mark → List ℕ → Entry
-with_output mark output = record { mark = mark; output = Some output }
+with_output mark output = record { mark = mark; output = Some output; elapsed = 1500 }
 
 abbrev silent : Mark → Entry
-silent mark = record { mark = mark; output = None }
+silent mark = record { mark = mark; output = None; elapsed = 1500 }
 
 last_text_counts : text_before_run None (op.Text 1 ∷ op.Text 2 ∷ op.Run ∷ op.Text 3 ∷ op.Run ∷ []) ≡ Some 2
 last_text_counts = refl
@@ -97,3 +97,32 @@ fails_on_terminal = refl
 -- a label is cut before its first line feed
 first_line_only : first_line (line (codes "cat <<E") ++ line (codes "E")) ≡ codes "cat <<E"
 first_line_only = refl
+
+-- each placeholder of numbers
+all_numbers : template_text (codes "%s %t %p %r %u %f %%s") (record { started = 3; total = 8; running = 2; finished = 1; elapsed = 0 }) ≡ codes "3 8  12% 2 5 1 %s"
+unfolding digits
+all_numbers = refl
+
+-- a rate isn't known at once
+times_and_rates : template_text (codes "%e %o %c %E") (record { started = 3; total = 8; running = 0; finished = 3; elapsed = 1041 }) ≡ codes "1.041 2.9 ? ?"
+unfolding digits
+times_and_rates = refl
+
+rate_at_once : template_text (codes "%e %o") (record { started = 1; total = 8; running = 1; finished = 0; elapsed = 0 }) ≡ codes "0.000 ?"
+unfolding digits
+rate_at_once = refl
+
+all_known : unknown_placeholder (codes "[%f/%t] 100%%") ≡ None
+all_known = refl
+
+unknown_is_named : unknown_placeholder (codes "%f %x %y") ≡ Some 120
+unknown_is_named = refl
+
+percent_at_the_end : unknown_placeholder (codes "%%%") ≡ Some 0
+percent_at_the_end = refl
+
+-- a command that ends while another one runs still counts as running
+others_run : text_of (record { style = Labels; on_terminal = false; template = codes "%s %r %u %f %e: " }) build 2 (silent (Took 0) ∷ silent (Took 1) ∷ silent (Ended 0 true) ∷ silent (Ended 1 true) ∷ [])
+    ≡ line (codes "2 2 0 1 1.500: CC a.o") ++ line (codes "2 1 0 2 1.500: LINK app")
+unfolding digits
+others_run = refl

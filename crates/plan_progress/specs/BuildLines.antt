@@ -1,5 +1,5 @@
 -- The text of a build: what is shown of the marks of its run, with the outputs of its commands.
-use Rattle.std.specs.Prelude.{◌≡◌, ℕ, ◌-◌, ◌==◌, Bool, true, false, not, ◌&&◌, ◌||◌, List, [], ◌∷◌, ◌++◌, Option, None, if◌then◌else◌, map, codes}
+use Rattle.std.specs.Prelude.{◌≡◌, ℕ, ◌==◌, Bool, true, false, not, ◌&&◌, ◌||◌, List, [], ◌∷◌, ◌++◌, Option, None, if◌then◌else◌, map, codes}
 use Rattle.std.specs.Fmt.{decimal}
 use Rattle.plan_text.specs.Bytes.{line_feed, space}
 use Rattle.plan_image.specs.declared.image.Parts.{Parts}
@@ -12,22 +12,33 @@ use Rattle.plan_machine.specs.Total.{has_command}
 use Rattle.plan_status.specs.Lines.{label_of, malformed_text, plain_text}
 use Rattle.plan_status.specs.Outcomes.{or_empty}
 use Rattle.plan_progress.specs.declared.counts.Counts.{Counts}
+use Rattle.plan_progress.specs.declared.numbers.Numbers.{Numbers}
 use Rattle.plan_progress.specs.declared.display.Display.{Display}
 use Rattle.plan_progress.specs.declared.style.Style.{Style}
 use Rattle.plan_progress.specs.declared.style.Style.TheVariants.{Labels, Commands, Failures}
 use Rattle.plan_progress.specs.Command.{command_of}
 use Rattle.plan_progress.specs.Counting.{counted, counts_of, ended, is_end, no_counts}
+use Rattle.plan_progress.specs.Template.{at_end, at_start, template_text}
 
 -- What an edge doesn't have in the image is shown as an empty text. Counts are those after the mark that is shown.
 
+-- How the text is shown: a display, with the text of its template.
+pub record Look : Type 0 where
+  pub style : Style
+  pub on_terminal : Bool
+  pub template : List ℕ
+
+abbrev pub look_of : Display → Look
+look_of d = record { style = d.style; on_terminal = d.on_terminal; template = d.template.now }
+
 -- ---- the line of a command
 
--- `[n/m] LABEL`: n edges have finished of the m that aren't clean
-abbrev pub progress : ℕ → Counts → List ℕ → List ℕ
-progress total c label = codes "[" ++ decimal c.finished ++ codes "/" ++ decimal (total - c.clean) ++ codes "] " ++ label
+-- a label after the text of the template, such as `[n/m] LABEL`
+abbrev pub progress : List ℕ → Numbers → List ℕ → List ℕ
+progress template n label = template_text template n ++ label
 
-abbrev pub progress_line : ℕ → Counts → List ℕ → List ℕ
-progress_line total c label = progress total c label ++ line_feed ∷ []
+abbrev pub progress_line : List ℕ → Numbers → List ℕ → List ℕ
+progress_line template n label = progress template n label ++ line_feed ∷ []
 
 -- a text up to its first line feed
 abbrev pub first_line : List ℕ → List ℕ
@@ -43,35 +54,36 @@ abbrev pub wrap_again : List ℕ
 wrap_again = 27 ∷ codes "[?7h"
 
 -- on a terminal the line is written over the one before it, and has no line feed
-abbrev pub terminal_line : ℕ → Counts → List ℕ → List ℕ
-terminal_line total c label = write_over ++ (progress total c (first_line label) ++ wrap_again)
+abbrev pub terminal_line : List ℕ → Numbers → List ℕ → List ℕ
+terminal_line template n label = write_over ++ (progress template n (first_line label) ++ wrap_again)
 
-abbrev pub shown_line : Bool → ℕ → Counts → List ℕ → List ℕ
-shown_line on_terminal total c label = if on_terminal then terminal_line total c label else progress_line total c label
+abbrev pub shown_line : Look → Numbers → List ℕ → List ℕ
+shown_line d n label = if d.on_terminal then terminal_line d.template n label else progress_line d.template n label
 
-abbrev pub styled_line : Style → Bool → Parts → ℕ → Counts → ℕ → List ℕ
-styled_line Labels on_terminal p total c e = shown_line on_terminal total c (or_empty (label_of p e))
-styled_line Commands on_terminal p total c e = shown_line on_terminal total c (or_empty (command_of p e))
-styled_line Failures on_terminal p total c e = []
+abbrev pub styled_line : Style → Look → Parts → Numbers → ℕ → List ℕ
+styled_line Labels d p n e = shown_line d n (or_empty (label_of p e))
+styled_line Commands d p n e = shown_line d n (or_empty (command_of p e))
+styled_line Failures d p n e = []
 
 -- the line of a command edge
-abbrev pub edge_line : Display → Parts → ℕ → Counts → ℕ → List ℕ
-edge_line d p total c e = if has_command p e then styled_line d.style d.on_terminal p total c e else []
+abbrev pub edge_line : Look → Parts → Numbers → ℕ → List ℕ
+edge_line d p n e = if has_command p e then styled_line d.style d p n e else []
 
 -- a missing input has no line
-abbrev pub failure_line : Display → Parts → ℕ → Counts → ℕ → Cause → List ℕ
-failure_line d p total c e (MissingInput f) = []
-failure_line d p total c e cause = edge_line d p total c e
+abbrev pub failure_line : Look → Parts → Numbers → ℕ → Cause → List ℕ
+failure_line d p n e (MissingInput f) = []
+failure_line d p n e cause = edge_line d p n e
 
 -- the line of a command that starts to run
-abbrev pub start_line : Display → Parts → ℕ → Counts → ℕ → List ℕ
-start_line d p total c e = if d.on_terminal then edge_line d p total c e else []
+abbrev pub start_line : Look → Parts → Numbers → ℕ → List ℕ
+start_line d p n e = if d.on_terminal then edge_line d p n e else []
 
-abbrev pub mark_line : Display → Parts → ℕ → Counts → Mark → List ℕ
-mark_line d p total c (Took e) = start_line d p total c e
-mark_line d p total c (Ended e true) = edge_line d p total c e
-mark_line d p total c (Failed e cause) = failure_line d p total c e cause
-mark_line d p total c mark = []
+-- the line of a mark, which is shown after so many milliseconds
+abbrev pub mark_line : Look → Parts → ℕ → (elapsed : ℕ) → Counts → Mark → List ℕ
+mark_line d p total elapsed c (Took e) = start_line d p (at_start total elapsed c) e
+mark_line d p total elapsed c (Ended e true) = edge_line d p (at_end total elapsed c) e
+mark_line d p total elapsed c (Failed e cause) = failure_line d p (at_end total elapsed c) e cause
+mark_line d p total elapsed c mark = []
 
 -- ---- the output of a command that succeeded
 
@@ -175,23 +187,24 @@ mark_text style p mark output = []
 abbrev pub text_below : Style → Parts → Counts → Bool → Mark → List ℕ → List ℕ
 text_below style p c last mark output = mark_text style p mark output ++ end_line last c
 
-abbrev pub is_open_at : Display → Parts → ℕ → Bool → Counts → Mark → Bool
-is_open_at d p total line_open c mark = is_open d.on_terminal line_open (mark_line d p total c mark)
+abbrev pub is_open_at : Look → Parts → ℕ → (elapsed : ℕ) → Bool → Counts → Mark → Bool
+is_open_at d p total elapsed line_open c mark = is_open d.on_terminal line_open (mark_line d p total elapsed c mark)
 
 -- the text of a mark, if a line is open before it or not
-abbrev pub text_with : Display → Parts → ℕ → Bool → Counts → Mark → List ℕ → List ℕ
-text_with d p total line_open c mark output =
-    joined (is_open_at d p total line_open c mark) (is_last p total c mark) (mark_line d p total c mark) (text_below d.style p c (is_last p total c mark) mark output)
+abbrev pub text_with : Look → Parts → ℕ → (elapsed : ℕ) → Bool → Counts → Mark → List ℕ → List ℕ
+text_with d p total elapsed line_open c mark output =
+    joined (is_open_at d p total elapsed line_open c mark) (is_last p total c mark) (mark_line d p total elapsed c mark) (text_below d.style p c (is_last p total c mark) mark output)
 
 -- a line is open after this text
-abbrev pub open_with : Display → Parts → ℕ → Bool → Counts → Mark → List ℕ → Bool
-open_with d p total line_open c mark output =
-    stays_open (is_open_at d p total line_open c mark) (is_last p total c mark) (text_below d.style p c (is_last p total c mark) mark output)
+abbrev pub open_with : Look → Parts → ℕ → (elapsed : ℕ) → Bool → Counts → Mark → List ℕ → Bool
+open_with d p total elapsed line_open c mark output =
+    stays_open (is_open_at d p total elapsed line_open c mark) (is_last p total c mark) (text_below d.style p c (is_last p total c mark) mark output)
 
--- a mark, and the output that was taken with it
+-- a mark, the output that was taken with it, and after how many milliseconds it is shown
 pub record Entry : Type 0 where
   pub mark : Mark
   pub output : Option (List ℕ)
+  pub elapsed : ℕ
 
 abbrev pub marks_of : List Entry → List Mark
 marks_of entries = map (λ (entry : Entry). entry.mark) entries
@@ -202,34 +215,42 @@ IsTaken taken p (Ended e true) output = taken (or_empty (first_output p e)) outp
 IsTaken taken p (Failed e cause) output = taken (or_empty (first_output p e)) output
 IsTaken taken p mark output = output ≡ None
 
-abbrev pub AreTaken : (List ℕ → Option (List ℕ) → Type 0) → Parts → List Entry → Type 0
-AreTaken taken p [] = Unit {0}
-AreTaken taken p (entry ∷ entries) = IsTaken taken p entry.mark entry.output × AreTaken taken p entries
+-- A stopwatch shows the milliseconds of a mark that may have a line. Those of another mark are 0.
+abbrev pub IsTimed : (showed : ℕ → Type 0) → Mark → (elapsed : ℕ) → Type 0
+IsTimed showed (Took e) elapsed = showed elapsed
+IsTimed showed (Ended e true) elapsed = showed elapsed
+IsTimed showed (Failed e cause) elapsed = showed elapsed
+IsTimed showed mark elapsed = elapsed ≡ 0
+
+-- the outputs of entries were taken, and a stopwatch showed their milliseconds
+abbrev pub AreTaken : (List ℕ → Option (List ℕ) → Type 0) → (showed : ℕ → Type 0) → Parts → List Entry → Type 0
+AreTaken taken showed p [] = Unit {0}
+AreTaken taken showed p (entry ∷ entries) = IsTaken taken p entry.mark entry.output × IsTimed showed entry.mark entry.elapsed × AreTaken taken showed p entries
 
 -- the text of entries that come after marks with these counts, with or without an open line
-abbrev pub text_after : Display → Parts → ℕ → Bool → Counts → List Entry → List ℕ
+abbrev pub text_after : Look → Parts → ℕ → Bool → Counts → List Entry → List ℕ
 text_after d p total line_open c [] = []
 text_after d p total line_open c (entry ∷ entries) =
-    text_with d p total line_open (counted p c entry.mark) entry.mark (or_empty entry.output)
-    ++ text_after d p total (open_with d p total line_open (counted p c entry.mark) entry.mark (or_empty entry.output)) (counted p c entry.mark) entries
+    text_with d p total entry.elapsed line_open (counted p c entry.mark) entry.mark (or_empty entry.output)
+    ++ text_after d p total (open_with d p total entry.elapsed line_open (counted p c entry.mark) entry.mark (or_empty entry.output)) (counted p c entry.mark) entries
 
 -- a line is open after them
-abbrev pub open_after : Display → Parts → ℕ → Bool → Counts → List Entry → Bool
+abbrev pub open_after : Look → Parts → ℕ → Bool → Counts → List Entry → Bool
 open_after d p total line_open c [] = line_open
 open_after d p total line_open c (entry ∷ entries) =
-    open_after d p total (open_with d p total line_open (counted p c entry.mark) entry.mark (or_empty entry.output)) (counted p c entry.mark) entries
+    open_after d p total (open_with d p total entry.elapsed line_open (counted p c entry.mark) entry.mark (or_empty entry.output)) (counted p c entry.mark) entries
 
-abbrev pub text_of : Display → Parts → ℕ → List Entry → List ℕ
+abbrev pub text_of : Look → Parts → ℕ → List Entry → List ℕ
 text_of d p total entries = text_after d p total false no_counts entries
 
-abbrev pub open_of : Display → Parts → ℕ → List Entry → Bool
+abbrev pub open_of : Look → Parts → ℕ → List Entry → Bool
 open_of d p total entries = open_after d p total false no_counts entries
 
--- The text is that of these marks with the outputs that were taken, and the counts are theirs. `line_open` says whether a line is open after it.
-pub record TellsBuild (taken : List ℕ → Option (List ℕ) → Type 0) (display : Display) (counts : Counts) (line_open : Bool) (p : Parts) (total : ℕ) (marks : List Mark) (text : List ℕ) : Type 0 where
+-- The text is that of these marks with the outputs that were taken, when they were shown, and the counts are theirs. `line_open` says whether a line is open after it.
+pub record TellsBuild (taken : List ℕ → Option (List ℕ) → Type 0) (showed : ℕ → Type 0) (look : Look) (counts : Counts) (line_open : Bool) (p : Parts) (total : ℕ) (marks : List Mark) (text : List ℕ) : Type 0 where
   pub entries : List Entry
   pub all : marks_of entries ≡ marks
-  pub given : AreTaken taken p entries
+  pub given : AreTaken taken showed p entries
   pub counted : counts ≡ counts_of p marks
-  pub opened : line_open ≡ open_of display p total entries
-  pub shown : text ≡ text_of display p total entries
+  pub opened : line_open ≡ open_of look p total entries
+  pub shown : text ≡ text_of look p total entries

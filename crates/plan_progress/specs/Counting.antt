@@ -1,13 +1,14 @@
--- How many edges have ended, and how.
+-- How many edges have started, how many have ended, and how.
 use Rattle.std.specs.Prelude.{ℕ, ◌+◌, Bool, true, false, List, [], ◌∷◌, if◌then◌else◌}
 use Rattle.plan_image.specs.declared.image.Parts.{Parts}
 use Rattle.plan_machine.specs.declared.event.Mark.{Mark}
-use Rattle.plan_machine.specs.declared.event.Mark.TheVariants.{Ended, Failed, Skipped, Stopped}
+use Rattle.plan_machine.specs.declared.event.Mark.TheVariants.{Ended, Failed, Skipped, Stopped, Took}
+use Rattle.plan_verify.specs.declared.value.Cause.TheVariants.{MissingInput}
 use Rattle.plan_machine.specs.Total.{has_command}
 use Rattle.plan_progress.specs.declared.counts.Counts.{Counts}
 
 abbrev pub no_counts : Counts
-no_counts = record { finished = 0; clean = 0; skipped = 0; not_started = 0; failed = 0 }
+no_counts = record { started = 0; finished = 0; clean = 0; skipped = 0; not_started = 0; failed = 0 }
 
 -- a mark says how a command edge ended
 abbrev pub is_end : Parts → Mark → Bool
@@ -18,19 +19,22 @@ is_end p (Stopped e) = has_command p e
 is_end p _ = false
 
 abbrev pub one_more_finished : Counts → Counts
-one_more_finished c = record { finished = c.finished + 1; clean = c.clean; skipped = c.skipped; not_started = c.not_started; failed = c.failed }
+one_more_finished c = record { started = c.started; finished = c.finished + 1; clean = c.clean; skipped = c.skipped; not_started = c.not_started; failed = c.failed }
 
 abbrev pub one_more_clean : Counts → Counts
-one_more_clean c = record { finished = c.finished; clean = c.clean + 1; skipped = c.skipped; not_started = c.not_started; failed = c.failed }
+one_more_clean c = record { started = c.started; finished = c.finished; clean = c.clean + 1; skipped = c.skipped; not_started = c.not_started; failed = c.failed }
 
 abbrev pub one_more_skipped : Counts → Counts
-one_more_skipped c = record { finished = c.finished; clean = c.clean; skipped = c.skipped + 1; not_started = c.not_started; failed = c.failed }
+one_more_skipped c = record { started = c.started; finished = c.finished; clean = c.clean; skipped = c.skipped + 1; not_started = c.not_started; failed = c.failed }
 
 abbrev pub one_more_not_started : Counts → Counts
-one_more_not_started c = record { finished = c.finished; clean = c.clean; skipped = c.skipped; not_started = c.not_started + 1; failed = c.failed }
+one_more_not_started c = record { started = c.started; finished = c.finished; clean = c.clean; skipped = c.skipped; not_started = c.not_started + 1; failed = c.failed }
 
 abbrev pub one_more_failed : Counts → Counts
-one_more_failed c = record { finished = c.finished; clean = c.clean; skipped = c.skipped; not_started = c.not_started; failed = c.failed + 1 }
+one_more_failed c = record { started = c.started; finished = c.finished; clean = c.clean; skipped = c.skipped; not_started = c.not_started; failed = c.failed + 1 }
+
+abbrev pub one_more_started : Counts → Counts
+one_more_started c = record { started = c.started + 1; finished = c.finished; clean = c.clean; skipped = c.skipped; not_started = c.not_started; failed = c.failed }
 
 -- an edge has finished if its command ran or it failed, and is clean if it succeeded without running one
 abbrev pub one_more : Counts → Mark → Counts
@@ -49,9 +53,18 @@ abbrev pub with_failure : Counts → Mark → Counts
 with_failure c (Failed e cause) = one_more_failed c
 with_failure c _ = c
 
+-- A mark says that a command edge started, or that it never will, because an input of it is missing.
+abbrev pub is_start : Parts → Mark → Bool
+is_start p (Took e) = has_command p e
+is_start p (Failed e (MissingInput f)) = has_command p e
+is_start p _ = false
+
+abbrev pub with_start : Parts → Counts → Mark → Counts
+with_start p c mark = if is_start p mark then one_more_started c else c
+
 -- the counts after one more mark
 abbrev pub counted : Parts → Counts → Mark → Counts
-counted p c mark = with_failure (with_end p c mark) mark
+counted p c mark = with_start p (with_failure (with_end p c mark) mark) mark
 
 -- the counts after more marks
 abbrev pub counted_all : Parts → Counts → List Mark → Counts

@@ -1,3 +1,4 @@
 pub mod Command
 pub mod Counting
+pub mod Template
 pub mod BuildLines

@@ -6,6 +6,7 @@ ghost use Rattle.plan_status.specs.Outcomes.{or_empty};
 ghost use Rattle.plan_image.specs.declared.image.Parts.{Parts as Tables};
 ghost use Rattle.plan_machine.specs.declared.event.Mark.{Mark as Told};
 ghost use Rattle.plan_progress.specs.BuildLines as defined;
+ghost use Rattle.plan_progress.specs.BuildLines.{look_of};
 
 use crate::counting::{counted, ended, is_end, no_counts};
 use crate::counts::Counts;
@@ -15,6 +16,7 @@ use crate::line_feeds::{is_open, joined, stays_open};
 use crate::lines::{concatenate, mark_line, success_output};
 use crate::names::first_output;
 use crate::outputs::Outputs;
+use crate::stopwatch::Stopwatch;
 use crate::style::Style;
 use plan_image::Image;
 use plan_machine::Mark;
@@ -27,17 +29,17 @@ use std::alloc::{AllocError, Global};
 #[derive(Drop)]
 pub struct BuildLines<'a, O> {
     outputs: &'a O,
-    display: Display,
+    display: Display<'a>,
     /// The counts of the marks so far.
     counts: Counts,
     /// A progress line has no line feed after it yet.
     line_open: bool,
 }
 
-impl<'a, O: Outputs> BuildLines<'a, O> {
-    /// Creates the format. It takes the outputs of commands from `outputs` when their marks come.
-    pub fn new(outputs: &'a O, display: Display) -> BuildLines<'a, O>
-        ensures { result.display ≡ display }
+impl<'a, O: Outputs + Stopwatch> BuildLines<'a, O> {
+    /// Creates the format. When marks come, it takes the outputs of commands from `outputs`, and the time.
+    pub fn new(outputs: &'a O, display: Display<'a>) -> BuildLines<'a, O>
+        ensures { look_of result.display ≡ look_of display.entry }
     {
         BuildLines {
             outputs,
@@ -70,6 +72,18 @@ fn output_with<O: Outputs>(image: &Image, outputs: &O, mark: Mark) -> Option<Vec
         Mark::Ended(edge, true) => output_of(image, outputs, edge),
         Mark::Failed(edge, _) => output_of(image, outputs, edge),
         _ => None,
+    }
+}
+
+/// Returns how many milliseconds have passed, if a mark may have a line, and otherwise 0.
+fn elapsed_with<O: Stopwatch>(outputs: &O, mark: Mark) -> u64
+    ensures { defined.IsTimed (O.showed outputs.now) mark result }
+{
+    match mark {
+        Mark::Took(_) => outputs.elapsed(),
+        Mark::Ended(_, true) => outputs.elapsed(),
+        Mark::Failed(_, _) => outputs.elapsed(),
+        _ => 0,
     }
 }
 
@@ -198,24 +212,26 @@ struct Shown {
     line_open: bool,
 }
 
-/// Returns the text of a mark. `line_open` says whether a progress line is open before it.
+/// Returns the text of a mark that is shown after this number of milliseconds. `line_open` says whether a progress line is
+/// open before it.
 fn text_with(
     alloc: Global,
     image: &Image,
-    display: Display,
+    display: &Display<'_>,
     total: u64,
+    elapsed: u64,
     line_open: bool,
     counts: Counts,
     mark: Mark,
     output: &[u8],
 ) -> Result<Shown, AllocError>
-    ensures text { IfOk result (λ shown. shown.text.items ≡ defined.text_with display image.now total line_open counts mark output.now) }
-    ensures left { IfOk result (λ shown. shown.line_open ≡ defined.open_with display image.now total line_open counts mark output.now) }
+    ensures text { IfOk result (λ shown. shown.text.items ≡ defined.text_with (look_of display.now) image.now total elapsed line_open counts mark output.now) }
+    ensures left { IfOk result (λ shown. shown.line_open ≡ defined.open_with (look_of display.now) image.now total elapsed line_open counts mark output.now) }
 {
     let Some(last) = is_last(image, total, counts, mark) else {
         return Err(AllocError);
     };
-    let line = mark_line(alloc, image, display, total, counts, mark)?;
+    let line = mark_line(alloc, image, display, total, elapsed, counts, mark)?;
     let below = text_below(alloc, image, display.style, counts, last, mark, output)?;
     let now_open = is_open(display.on_terminal, line_open, &line);
     let text = joined(alloc, now_open, last, &line, &below)?;
@@ -223,15 +239,14 @@ fn text_with(
     Ok(Shown { text, line_open })
 }
 
-impl<O: Outputs> Format for BuildLines<'_, O> {
-    ghost use Rattle.plan_progress.specs.declared.display.Display.{Display as Way};
-    ghost use Rattle.plan_progress.specs.BuildLines.{TellsBuild};
+impl<O: Outputs + Stopwatch> Format for BuildLines<'_, O> {
+    ghost use Rattle.plan_progress.specs.BuildLines.{Look, TellsBuild, look_of};
 
-    ghost Kept = { Way };
+    ghost Kept = { Look };
 
-    ghost kept = { λ f. f.display };
+    ghost kept = { λ f. look_of f.display };
 
-    ghost tells = { λ f. TellsBuild (O.taken f.outputs.now) f.display f.counts f.line_open };
+    ghost tells = { λ f. TellsBuild (O.taken f.outputs.now) (O.showed f.outputs.now) (look_of f.display) f.counts f.line_open };
 
     fn begin(&mut self) {
         self.counts = no_counts();
@@ -249,10 +264,13 @@ impl<O: Outputs> Format for BuildLines<'_, O> {
         let Some(counts) = counted(image, self.counts, mark) else {
             return Err(AllocError);
         };
+        let elapsed = elapsed_with(self.outputs, mark);
         let output = output_with(image, self.outputs, mark);
         let bytes = bytes_of(&output);
         let (display, was_open) = (self.display, self.line_open);
-        let shown = text_with(alloc, image, display, total, was_open, counts, mark, bytes)?;
+        let shown = text_with(
+            alloc, image, &display, total, elapsed, was_open, counts, mark, bytes,
+        )?;
         self.counts = counts;
         self.line_open = shown.line_open;
         Ok(shown.text)

@@ -6,13 +6,14 @@ ghost use Rattle.plan_progress.specs.Counting as defined;
 use crate::counts::Counts;
 use crate::names::has_command;
 use plan_image::Image;
-use plan_machine::Mark;
+use plan_machine::{Cause, Mark};
 
 /// Returns the counts before the first mark.
 pub(crate) fn no_counts() -> Counts
     ensures { result ≡ defined.no_counts }
 {
     Counts {
+        started: 0,
         finished: 0,
         clean: 0,
         skipped: 0,
@@ -39,6 +40,7 @@ fn one_more_finished(counts: Counts) -> Option<Counts>
     ensures { IfSome result (λ c. c ≡ defined.one_more_finished counts) }
 {
     Some(Counts {
+        started: counts.started,
         finished: counts.finished.checked_add(1)?,
         clean: counts.clean,
         skipped: counts.skipped,
@@ -52,6 +54,7 @@ fn one_more_clean(counts: Counts) -> Option<Counts>
     ensures { IfSome result (λ c. c ≡ defined.one_more_clean counts) }
 {
     Some(Counts {
+        started: counts.started,
         finished: counts.finished,
         clean: counts.clean.checked_add(1)?,
         skipped: counts.skipped,
@@ -65,6 +68,7 @@ fn one_more_skipped(counts: Counts) -> Option<Counts>
     ensures { IfSome result (λ c. c ≡ defined.one_more_skipped counts) }
 {
     Some(Counts {
+        started: counts.started,
         finished: counts.finished,
         clean: counts.clean,
         skipped: counts.skipped.checked_add(1)?,
@@ -78,10 +82,25 @@ fn one_more_not_started(counts: Counts) -> Option<Counts>
     ensures { IfSome result (λ c. c ≡ defined.one_more_not_started counts) }
 {
     Some(Counts {
+        started: counts.started,
         finished: counts.finished,
         clean: counts.clean,
         skipped: counts.skipped,
         not_started: counts.not_started.checked_add(1)?,
+        failed: counts.failed,
+    })
+}
+
+/// Counts one more edge that has started. Returns None if the number is too large for a `u64`.
+fn one_more_started(counts: Counts) -> Option<Counts>
+    ensures { IfSome result (λ c. c ≡ defined.one_more_started counts) }
+{
+    Some(Counts {
+        started: counts.started.checked_add(1)?,
+        finished: counts.finished,
+        clean: counts.clean,
+        skipped: counts.skipped,
+        not_started: counts.not_started,
         failed: counts.failed,
     })
 }
@@ -91,6 +110,7 @@ fn one_more_failed(counts: Counts) -> Option<Counts>
     ensures { IfSome result (λ c. c ≡ defined.one_more_failed counts) }
 {
     Some(Counts {
+        started: counts.started,
         finished: counts.finished,
         clean: counts.clean,
         skipped: counts.skipped,
@@ -134,14 +154,35 @@ fn with_failure(counts: Counts, mark: Mark) -> Option<Counts>
     }
 }
 
+/// Checks whether a mark says that a command edge started, or that an input of it is missing.
+fn is_start(image: &Image, mark: Mark) -> bool
+    ensures { result ≡ defined.is_start image.now mark }
+{
+    match mark {
+        Mark::Took(edge) => has_command(image, edge),
+        Mark::Failed(edge, Cause::MissingInput(_)) => has_command(image, edge),
+        _ => false,
+    }
+}
+
+/// Counts the edge of a mark if it started. Returns None if the number is too large for a `u64`.
+fn with_start(image: &Image, counts: Counts, mark: Mark) -> Option<Counts>
+    ensures { IfSome result (λ c. c ≡ defined.with_start image.now counts mark) }
+{
+    if is_start(image, mark) {
+        one_more_started(counts)
+    } else {
+        Some(counts)
+    }
+}
+
 /// Returns the counts after one more mark. None if a number is too large for a `u64`.
 pub(crate) fn counted(image: &Image, counts: Counts, mark: Mark) -> Option<Counts>
     ensures { IfSome result (λ c. c ≡ defined.counted image.now counts mark) }
 {
-    match with_end(image, counts, mark) {
-        Some(counts) => with_failure(counts, mark),
-        None => None,
-    }
+    let counts = with_end(image, counts, mark)?;
+    let counts = with_failure(counts, mark)?;
+    with_start(image, counts, mark)
 }
 
 /// Returns the number of command edges that have ended. None if it is too large for a `u64`.

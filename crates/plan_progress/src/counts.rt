@@ -1,8 +1,11 @@
 //! Counts of command edges.
 
-/// The number of edges that have ended so far, by how they ended. All fields but `failed` count only command edges.
+/// The number of edges that have started so far, and of those that have ended, by how they ended. All fields but
+/// `failed` count only command edges.
 #[derive(Clone, Copy, Debug, PartialEq, Eq)]
 pub struct Counts {
+    /// They have started, or an input of them is missing.
+    pub started: u64,
     /// Their commands ran, or they failed.
     pub finished: u64,
     /// They succeeded without running a command.

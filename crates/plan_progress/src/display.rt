@@ -3,10 +3,13 @@
 use crate::style::Style;
 
 /// How the text of a build is shown.
-#[derive(Clone, Copy, Debug, PartialEq, Eq)]
-pub struct Display {
+#[derive(Clone, Copy)]
+pub struct Display<'a> {
     /// How commands are shown.
     pub style: Style,
     /// A terminal shows the text: each progress line is written over the one before it.
     pub on_terminal: bool,
+    /// The template of the text before a label, as ninja's `NINJA_STATUS`: a percent sign and the byte after it are a
+    /// placeholder. An unknown placeholder has no text.
+    pub template: &'a [u8],
 }

@@ -4,12 +4,15 @@ ghost use Rattle.std.specs.Prelude.{◌≡◌, IfOk, map};
 ghost use Rattle.std.specs.List.{concat};
 ghost use Rattle.plan_status.specs.Outcomes.{or_empty};
 ghost use Rattle.plan_progress.specs.BuildLines as defined;
+ghost use Rattle.plan_progress.specs.BuildLines.{look_of};
 
 use crate::counts::Counts;
 use crate::display::Display;
 use crate::edge_command::command_of;
 use crate::names::{has_command, label_of};
+use crate::numbers::Numbers;
 use crate::style::Style;
+use crate::template::{at_end, at_start, template_text};
 use plan_image::Image;
 use plan_machine::{Cause, Mark};
 use std::alloc::{AllocError, Global};
@@ -25,35 +28,30 @@ pub(crate) fn concatenate(alloc: Global, texts: &[&[u8]]) -> Result<Vec<u8>, All
     Ok(text)
 }
 
-/// Returns `[n/m] LABEL`.
-fn progress(alloc: Global, total: u64, counts: Counts, label: &[u8]) -> Result<Vec<u8>, AllocError>
-    ensures { IfOk result (λ text. text.items ≡ defined.progress total counts label.now) }
+/// Returns a label after the text of a template.
+fn progress(
+    alloc: Global,
+    template: &[u8],
+    numbers: Numbers,
+    label: &[u8],
+) -> Result<Vec<u8>, AllocError>
+    ensures { IfOk result (λ text. text.items ≡ defined.progress template.now numbers label.now) }
 {
-    let finished = counts.finished.to_string(alloc)?;
-    let wanted = total.saturating_sub(counts.clean).to_string(alloc)?;
-    concatenate(
-        alloc,
-        &[
-            b"[".as_slice(),
-            finished.as_bytes(),
-            b"/",
-            wanted.as_bytes(),
-            b"] ",
-            label,
-        ],
-    )
+    let mut text = template_text(alloc, template, numbers)?;
+    text.extend_from_slice(label)?;
+    Ok(text)
 }
 
 /// Returns the line that is shown if the text isn't on a terminal.
 fn progress_line(
     alloc: Global,
-    total: u64,
-    counts: Counts,
+    template: &[u8],
+    numbers: Numbers,
     label: &[u8],
 ) -> Result<Vec<u8>, AllocError>
-    ensures { IfOk result (λ line. line.items ≡ defined.progress_line total counts label.now) }
+    ensures { IfOk result (λ line. line.items ≡ defined.progress_line template.now numbers label.now) }
 {
-    let text = progress(alloc, total, counts, label)?;
+    let text = progress(alloc, template, numbers, label)?;
     concatenate(alloc, &[text.as_slice(), b"\n"])
 }
 
@@ -74,14 +72,14 @@ fn first_line(alloc: Global, text: &[u8]) -> Result<Vec<u8>, AllocError>
 /// Returns the line that a terminal shows in place of the one before it.
 fn terminal_line(
     alloc: Global,
-    total: u64,
-    counts: Counts,
+    template: &[u8],
+    numbers: Numbers,
     label: &[u8],
 ) -> Result<Vec<u8>, AllocError>
-    ensures { IfOk result (λ line. line.items ≡ defined.terminal_line total counts label.now) }
+    ensures { IfOk result (λ line. line.items ≡ defined.terminal_line template.now numbers label.now) }
 {
     let label = first_line(alloc, label)?;
-    let text = progress(alloc, total, counts, &label)?;
+    let text = progress(alloc, template, numbers, &label)?;
     concatenate(
         alloc,
         &[b"\r\x1b[K\x1b[?7l".as_slice(), text.as_slice(), b"\x1b[?7h"],
@@ -91,17 +89,16 @@ fn terminal_line(
 /// Returns the line with this label.
 fn shown_line(
     alloc: Global,
-    on_terminal: bool,
-    total: u64,
-    counts: Counts,
+    display: &Display<'_>,
+    numbers: Numbers,
     label: &[u8],
 ) -> Result<Vec<u8>, AllocError>
-    ensures { IfOk result (λ line. line.items ≡ defined.shown_line on_terminal total counts label.now) }
+    ensures { IfOk result (λ line. line.items ≡ defined.shown_line (look_of display.now) numbers label.now) }
 {
-    if on_terminal {
-        terminal_line(alloc, total, counts, label)
+    if display.on_terminal {
+        terminal_line(alloc, display.template, numbers, label)
     } else {
-        progress_line(alloc, total, counts, label)
+        progress_line(alloc, display.template, numbers, label)
     }
 }
 
@@ -109,15 +106,14 @@ fn shown_line(
 fn line_by_command(
     alloc: Global,
     image: &Image,
-    on_terminal: bool,
-    total: u64,
-    counts: Counts,
+    display: &Display<'_>,
+    numbers: Numbers,
     edge: u32,
 ) -> Result<Vec<u8>, AllocError>
-    ensures { IfOk result (λ line. line.items ≡ defined.styled_line Style.Commands on_terminal image.now total counts edge) }
+    ensures { IfOk result (λ line. line.items ≡ defined.styled_line Style.Commands (look_of display.now) image.now numbers edge) }
 {
     match command_of(image, edge) {
-        Ok(command) => shown_line(alloc, on_terminal, total, counts, command),
+        Ok(command) => shown_line(alloc, display, numbers, command),
         Err(fault) => Err(fault),
     }
 }
@@ -127,16 +123,15 @@ fn styled_line(
     alloc: Global,
     image: &Image,
     style: Style,
-    on_terminal: bool,
-    total: u64,
-    counts: Counts,
+    display: &Display<'_>,
+    numbers: Numbers,
     edge: u32,
 ) -> Result<Vec<u8>, AllocError>
-    ensures { IfOk result (λ line. line.items ≡ defined.styled_line style on_terminal image.now total counts edge) }
+    ensures { IfOk result (λ line. line.items ≡ defined.styled_line style (look_of display.now) image.now numbers edge) }
 {
     match style {
-        Style::Labels => { shown_line(alloc, on_terminal, total, counts, label_of(image, edge)) }
-        Style::Commands => line_by_command(alloc, image, on_terminal, total, counts, edge),
+        Style::Labels => shown_line(alloc, display, numbers, label_of(image, edge)),
+        Style::Commands => line_by_command(alloc, image, display, numbers, edge),
         Style::Failures => Ok(Vec::new(alloc)),
     }
 }
@@ -145,16 +140,14 @@ fn styled_line(
 fn edge_line(
     alloc: Global,
     image: &Image,
-    display: Display,
-    total: u64,
-    counts: Counts,
+    display: &Display<'_>,
+    numbers: Numbers,
     edge: u32,
 ) -> Result<Vec<u8>, AllocError>
-    ensures { IfOk result (λ line. line.items ≡ defined.edge_line display image.now total counts edge) }
+    ensures { IfOk result (λ line. line.items ≡ defined.edge_line (look_of display.now) image.now numbers edge) }
 {
     if has_command(image, edge) {
-        let (style, on_terminal) = (display.style, display.on_terminal);
-        styled_line(alloc, image, style, on_terminal, total, counts, edge)
+        styled_line(alloc, image, display.style, display, numbers, edge)
     } else {
         Ok(Vec::new(alloc))
     }
@@ -164,15 +157,14 @@ fn edge_line(
 fn start_line(
     alloc: Global,
     image: &Image,
-    display: Display,
-    total: u64,
-    counts: Counts,
+    display: &Display<'_>,
+    numbers: Numbers,
     edge: u32,
 ) -> Result<Vec<u8>, AllocError>
-    ensures { IfOk result (λ line. line.items ≡ defined.start_line display image.now total counts edge) }
+    ensures { IfOk result (λ line. line.items ≡ defined.start_line (look_of display.now) image.now numbers edge) }
 {
     if display.on_terminal {
-        edge_line(alloc, image, display, total, counts, edge)
+        edge_line(alloc, image, display, numbers, edge)
     } else {
         Ok(Vec::new(alloc))
     }
@@ -182,17 +174,16 @@ fn start_line(
 fn failure_line(
     alloc: Global,
     image: &Image,
-    display: Display,
-    total: u64,
-    counts: Counts,
+    display: &Display<'_>,
+    numbers: Numbers,
     edge: u32,
     cause: Cause,
 ) -> Result<Vec<u8>, AllocError>
-    ensures { IfOk result (λ line. line.items ≡ defined.failure_line display image.now total counts edge cause) }
+    ensures { IfOk result (λ line. line.items ≡ defined.failure_line (look_of display.now) image.now numbers edge cause) }
 {
     match cause {
         Cause::MissingInput(_) => Ok(Vec::new(alloc)),
-        _ => edge_line(alloc, image, display, total, counts, edge),
+        _ => edge_line(alloc, image, display, numbers, edge),
     }
 }
 
@@ -200,18 +191,32 @@ fn failure_line(
 pub(crate) fn mark_line(
     alloc: Global,
     image: &Image,
-    display: Display,
+    display: &Display<'_>,
     total: u64,
+    elapsed: u64,
     counts: Counts,
     mark: Mark,
 ) -> Result<Vec<u8>, AllocError>
-    ensures { IfOk result (λ line. line.items ≡ defined.mark_line display image.now total counts mark) }
+    ensures { IfOk result (λ line. line.items ≡ defined.mark_line (look_of display.now) image.now total elapsed counts mark) }
 {
     match mark {
-        Mark::Took(edge) => start_line(alloc, image, display, total, counts, edge),
-        Mark::Ended(edge, true) => edge_line(alloc, image, display, total, counts, edge),
+        Mark::Took(edge) => start_line(
+            alloc,
+            image,
+            display,
+            at_start(total, elapsed, counts),
+            edge,
+        ),
+        Mark::Ended(edge, true) => edge_line(
+            alloc,
+            image,
+            display,
+            at_end(total, elapsed, counts),
+            edge,
+        ),
         Mark::Failed(edge, cause) => {
-            failure_line(alloc, image, display, total, counts, edge, cause)
+            let numbers = at_end(total, elapsed, counts);
+            failure_line(alloc, image, display, numbers, edge, cause)
         }
         _ => Ok(Vec::new(alloc)),
     }

@@ -1,6 +1,6 @@
 //! The texts of small builds, written by hand.
 
-use crate::{BuildLines, Display, Outputs, Style};
+use crate::{BuildLines, Display, Outputs, Stopwatch, Style, unknown_placeholder};
 use plan_image::{Edge, EdgeCode, Edges, Image, Instr, Parts, Sort};
 use plan_machine::{Cause, Mark};
 use plan_status::Format;
@@ -27,6 +27,14 @@ impl Outputs for Warning {
             Ok(output) => Some(output),
             Err(_) => None,
         }
+    }
+}
+
+impl Stopwatch for Warning {
+    ghost showed = { λ _ _. Unit {0} };
+
+    fn elapsed(&self) -> u64 {
+        1041
     }
 }
 
@@ -101,24 +109,26 @@ fn image_of(alloc: Global) -> Option<Verified> {
     }
 }
 
-fn in_pipe(style: Style) -> Display {
+fn in_pipe(style: Style) -> Display<'static> {
     Display {
         style,
         on_terminal: false,
+        template: b"[%f/%t] ",
     }
 }
 
-fn on_terminal(style: Style) -> Display {
+fn on_terminal(style: Style) -> Display<'static> {
     Display {
         style,
         on_terminal: true,
+        template: b"[%f/%t] ",
     }
 }
 
 /// Returns the text of these marks, of which `edge` has an output.
 fn text_of(
     alloc: Global,
-    display: Display,
+    display: Display<'_>,
     edge: &'static [u8],
     marks: &[Mark],
 ) -> Result<Vec<u8>, AllocError> {
@@ -145,6 +155,37 @@ fn output_after_its_label(rt: HostRuntime) -> Result<(), Fail> {
         text.as_slice(),
         b"[1/2] CC a.o\nwarning\n[2/2] LINK app\n".as_slice()
     );
+    Ok(())
+}
+
+/// A template's placeholders are numbers of commands. The command whose end is shown still counts as running.
+#[test]
+fn numbers_by_a_template(rt: HostRuntime) -> Result<(), Fail> {
+    let display = Display {
+        style: Style::Labels,
+        on_terminal: false,
+        template: b"%s/%t %p%% %r %u %f %e %o: ",
+    };
+    let marks = [
+        Mark::Took(0),
+        Mark::Took(1),
+        Mark::Ended(0, true),
+        Mark::Ended(1, true),
+    ];
+    let text = text_of(rt.alloc(), display, b"", &marks)?;
+    assert_eq!(rt;
+        text.as_slice(),
+        b"2/2  50%% 2 0 1 1.041 1.0: CC a.o\n2/2 100%% 1 0 2 1.041 1.9: LINK app\n".as_slice()
+    );
+    Ok(())
+}
+
+/// The first unknown placeholder is found. A percent sign at the end is followed by 0.
+#[test]
+fn unknown_placeholder_is_found(rt: HostRuntime) -> Result<(), Fail> {
+    assert_eq!(rt; unknown_placeholder(b"[%f/%t %% %e %o %c]x"), None);
+    assert_eq!(rt; unknown_placeholder(b"%f%%x%x%y"), Some(b'x'));
+    assert_eq!(rt; unknown_placeholder(b"%%%"), Some(0));
     Ok(())
 }
 
