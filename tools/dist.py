@@ -101,8 +101,9 @@ def lay_out(program: pathlib.Path, log: pathlib.Path, prefix: pathlib.Path) -> N
     documents = prefix / "share" / "doc" / NAME
     for name in DOCUMENTS:
         copy(ROOT / name, documents / pathlib.Path(name).name)
-    for page in sorted((ROOT / "docs" / "using").glob("*.md")):
-        copy(page, documents / "using" / page.name)
+    using = ROOT / "docs" / "using"
+    for page in sorted([*using.glob("*.md"), *using.glob("screens/*.png")]):
+        copy(page, documents / page.relative_to(using.parent))
     copy(log, documents / "gate.log")
 
 

@@ -19,6 +19,7 @@ from typing import Callable, List, NamedTuple, Tuple
 
 from lib import programs
 from lib.place import PATIENCE, expect
+from lib.screen import Screen
 from lib.suite import Case, LeftOut, Setting, check
 
 ALONE = True
@@ -154,7 +155,12 @@ TEXTS = {
                                       f"[1/1] a\nFAILED: [code=255] a \nexit 255\n{STOPPED}", 1),
     "implicit outputs": Text((Edge("a | b c", "exit 1"),), f"[1/1] a\nFAILED: [code=1] a b c \nexit 1\n{STOPPED}", 1),
     "signal": Text((Edge("a", "echo text; kill -9 $$$$"),),
-                   f"[1/1] a\nFAILED: [signal] a \necho text; kill -9 $$\ntext\n{STOPPED}", 1),
+                   f"[1/1] a\nFAILED: [signal] a \necho text; kill -9 $$\ntext\nended by SIGKILL\n{STOPPED}", 1),
+    "signal without an output": Text((Edge("a", "kill -SEGV $$$$"),), "[1/1] a\nFAILED: [signal] a \nkill -SEGV $$\n"
+                                     f"ended by SIGSEGV\n{STOPPED}", 1),
+    "signal of a command of the shell": Text((Edge("a", "sh -c 'kill -9 $$$$' 2> /dev/null; exit 7"),),
+                                             "[1/1] a\nFAILED: [code=7] a \nsh -c 'kill -9 $$' 2> /dev/null; exit 7\n"
+                                             f"{STOPPED}", 1),
     "malformed depfile": Text((Edge("a", "echo text; echo a > d; touch $out", more="  depfile = d\n"),),
                               "[1/1] a\nFAILED: [depfile malformed 90 at 0] a \necho text; echo a > d; touch a\ntext\n"
                               f"{STOPPED}", 1),
@@ -295,49 +301,6 @@ def ninja_counts(folder: pathlib.Path) -> None:
 
 
 # ---- on a terminal
-
-class Screen:
-    """A terminal that knows what the text of a build uses: its lines, without the empty ones at its end."""
-
-    CODES = re.compile(rb"\r|\n|\x1b\[K|\x1b\[\?7[lh]|[^\r\n\x1b]+")
-
-    def __init__(self, shown: bytes, width: int = 80) -> None:
-        self.rows, self.row, self.column, self.wraps, self.width = [b""], 0, 0, True, width
-        at = 0
-        for code in self.CODES.finditer(shown):
-            check(code.start() == at, f"the terminal doesn't know {shown[at:at + 20]!r}")
-            at = code.end()
-            self.take(code[0])
-        check(at == len(shown), f"the terminal doesn't know {shown[at:at + 20]!r}")
-        expect("wraps in the end", True, self.wraps)
-
-    def take(self, code: bytes) -> None:
-        """Shows some bytes."""
-        if code == b"\r":
-            self.column = 0
-        elif code == b"\n":
-            self.row += 1
-            self.rows += [b""] * (self.row == len(self.rows))
-        elif code == b"\x1b[K":
-            self.rows[self.row] = self.rows[self.row][:self.column]
-        elif code.startswith(b"\x1b"):
-            self.wraps = code.endswith(b"h")
-        else:
-            for byte in code:
-                self.put(byte)
-
-    def put(self, byte: int) -> None:
-        """Shows a byte where the cursor is. Without wrapping the last column is written over."""
-        if self.column == self.width:
-            if self.wraps:
-                self.take(b"\r")
-                self.take(b"\n")
-            else:
-                self.column -= 1
-        row = self.rows[self.row].ljust(self.column)
-        self.rows[self.row] = row[:self.column] + bytes([byte]) + row[self.column + 1:]
-        self.column += 1
-
 
 def on_terminal(builder: str, folder: pathlib.Path, kind: str, *words: str, **more: str) -> tuple[bytes, int]:
     """Builds with standard output on a terminal of this kind, and returns what was written to it, and the status.

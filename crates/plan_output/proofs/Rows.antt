@@ -2,6 +2,7 @@
 use Rattle.std.proofs.Common.{◌≡◌, ℕ, List, [], ◌∷◌, ◌++◌, true, false, refl}
 use Rattle.std.specs.Prelude.{codes}
 use Rattle.plan_output.specs.Escapes.{shown_output, with_line_end, without_escapes}
+use Rattle.plan_output.specs.Signals.{signal_line}
 
 -- `ESC [` and these characters
 abbrev sequence : List ℕ → List ℕ
@@ -36,3 +37,9 @@ nothing_stays_nothing = refl
 
 line_end_is_added_once : with_line_end (97 ∷ 10 ∷ []) ≡ 97 ∷ 10 ∷ []
 line_end_is_added_once = refl
+
+signal_9_is_sigkill : signal_line 9 ≡ codes "ended by SIGKILL" ++ 10 ∷ []
+signal_9_is_sigkill = refl
+
+signal_40_has_no_name : signal_line 40 ≡ codes "ended by a signal" ++ 10 ∷ []
+signal_40_has_no_name = refl
