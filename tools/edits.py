@@ -22,6 +22,7 @@ import shutil
 import subprocess
 import sys
 import tempfile
+import time
 from collections.abc import Iterator, Sequence
 from typing import NamedTuple
 
@@ -105,17 +106,20 @@ def module_of(file: str) -> str:
     return "" if parts in (("lib",), ("main",)) else "::".join(parts) + "::"
 
 
-def function_at(text: str, place: int) -> str:
-    """Returns the function that a place of a file is in, with its type, as the checker names it."""
+def function_at(file: str, text: str, place: int) -> str:
+    """Returns the function that a place of a file is in, as the checker names it or the end of that name.
+
+    A method has the module of its type, which may be in another file: so it is named by its type alone.
+    """
     end = text.find("\n", place)
     text = text if end < 0 else text[:end]
     found = next((match for line in reversed(text.splitlines()) if (match := FUNCTION.match(line))), None)
     if found is None:
-        return ""
+        return module_of(file)
     blocks = [" ".join(match[0].split()).replace("< ", "<").replace(" >", ">") for match in BLOCK.finditer(text)]
     item = ITEM.search(blocks[-1]) if blocks and found["indent"] else None
     if item is None:
-        return found["name"]
+        return module_of(file) + found["name"]
     of_trait = (item["trait"] or "").split("::")[-1]
     return f"{item['name'] or item['type'].split('::')[-1]}{of_trait}::{found['name']}"
 
@@ -127,7 +131,7 @@ def apply(edit: Edit, home: pathlib.Path) -> list[str]:
         path = home / file
         text = path.read_text()
         if file.startswith("src/"):
-            names.append((module_of(file) + function_at(text, text.index(old))).rstrip(":"))
+            names.append(function_at(file, text, text.index(old)).rstrip(":"))
         path.write_text(text.replace(old, new, 1))
     return edit.checked or list(dict.fromkeys(names))
 
@@ -139,10 +143,10 @@ def verdict(edit: Edit, status: int, log: str) -> tuple[bool, str]:
         return True, line.strip()
     if status == 0:
         return False, "NOT REFUSED"
-    last = next((line for line in log.splitlines() if "error" in line or "note:" in line), log[-300:])
     if edit.reason and ANSWER.search(log):
         return True, "refused in an answer, for the reason that the edit gives"
-    return False, f"BAD EDIT: {last.strip()}"
+    found = next((line for line in log.splitlines() if "error:" in line or "error[" in line), "")
+    return False, f"BAD EDIT, status {status}: {found.strip() or log[-600:].strip()}"
 
 
 def try_one(edit: Edit, words: Sequence[str], home: pathlib.Path) -> tuple[bool, str]:
@@ -167,8 +171,10 @@ def try_all(edits: Sequence[Edit], proved: pathlib.Path, folder: pathlib.Path) -
     home.mkdir()
     words = [*over_sources.words(crate, over_sources.crates(), proved), "--incremental", str(folder / f"kept-{crate}")]
     for edit in edits:
+        begun = time.monotonic()
         passed, said = try_one(edit, words, home)
-        print(f"{edit.path.relative_to(ROOT)}: {'refused' if passed else 'FAILED'}: {said}", flush=True)
+        took = f"{time.monotonic() - begun:.0f} s"
+        print(f"{edit.path.relative_to(ROOT)}: {'refused' if passed else 'FAILED'}, {took}: {said}", flush=True)
         refused.append(passed)
     return refused
 

@@ -18,6 +18,14 @@ fn has_paths(found: &Paths, want: &[&[u8]]) -> bool {
     true
 }
 
+/// Checks whether a depfile has no fault and these paths.
+fn reads_as(parsed: &Parsed, want: &[&[u8]]) -> bool {
+    match parsed.result() {
+        Ok(paths) => has_paths(paths, want),
+        Err(_) => false,
+    }
+}
+
 /// Returns the paths that a reader finds in a text that comes in two pieces.
 fn cut_at(alloc: Global, text: &[u8], at: usize) -> Result<Paths, DepFault> {
     let mut reader = Reader::new(alloc);
@@ -38,9 +46,20 @@ fn fault_of(alloc: Global, text: &[u8]) -> Option<DepFault> {
     }
 }
 
+/// Checks whether a text has these paths if it comes in two pieces.
+fn has_paths_cut_at(
+    alloc: Global,
+    text: &[u8],
+    at: usize,
+    want: &[&[u8]],
+) -> Result<bool, DepFault> {
+    let paths = cut_at(alloc, text, at)?;
+    Ok(has_paths(&paths, want))
+}
+
 #[test]
 fn cut_at_each_byte(rt: HostRuntime) -> Result<(), Fail> {
-    let text = b"out: a\\ a.h \\\r\n $$b.h ./a\\ a.h a\\:b\nx:y";
+    let text = b"out: a\\ a.h \\\r\n $$b.h ./a\\ a.h a\\:b\nx:y".as_slice();
     let want = [
         b"a a.h".as_slice(),
         b"$b.h".as_slice(),
@@ -48,8 +67,8 @@ fn cut_at_each_byte(rt: HostRuntime) -> Result<(), Fail> {
         b"y".as_slice(),
     ];
     for at in 0..text.len() {
-        let paths = cut_at(rt.alloc(), text, at)?;
-        assert!(rt; has_paths(&paths, want.as_slice()), "cut at {at}");
+        let found = has_paths_cut_at(rt.alloc(), text, at, want.as_slice())?;
+        assert!(rt; found, "cut at {at}");
     }
     Ok(())
 }
@@ -100,33 +119,40 @@ fn longest_depfile(rt: HostRuntime) -> Result<(), Fail> {
     Ok(())
 }
 
+/// Collects a text that comes in two pieces, and reads it.
+fn gathered(alloc: Global, front: &[u8], rest: &[u8]) -> Result<Parsed, Memory> {
+    let mut gather = Gather::new(alloc);
+    gather.feed(front)?;
+    gather.feed(rest)?;
+    match gather.finish() {
+        Ok(parsed) => Ok(parsed),
+        Err((gather, memory)) => {
+            drop(gather);
+            Err(memory)
+        }
+    }
+}
+
+/// Returns a copy of a text that comes in two pieces, and is collected and read.
+fn gathered_copy(alloc: Global, front: &[u8], rest: &[u8]) -> Result<Parsed, Memory> {
+    let parsed = gathered(alloc, front, rest)?;
+    let copy = parsed.copy(alloc);
+    drop(parsed);
+    copy
+}
+
 #[test]
 fn gathered_and_copied(rt: HostRuntime) -> Result<(), Fail> {
-    let mut gather = Gather::new(rt.alloc());
-    gather.feed(b"out: a.h \\")?;
-    gather.feed(b"\n b.h ./a.h")?;
-    let Ok(parsed) = gather.finish() else {
-        return Err(Fail::new("no memory"));
-    };
-    let copy = parsed.copy(rt.alloc())?;
+    let copy = gathered_copy(rt.alloc(), b"out: a.h \\", b"\n b.h ./a.h")?;
     assert_eq!(rt; copy.bytes(), b"out: a.h \\\n b.h ./a.h".as_slice());
-    match copy.result() {
-        Ok(paths) => assert!(rt;
-            has_paths(paths, [b"a.h".as_slice(), b"b.h".as_slice()].as_slice())
-        ),
-        Err(fault) => return Err(Fail::from(fault)),
-    }
+    let want = [b"a.h".as_slice(), b"b.h".as_slice()];
+    assert!(rt; reads_as(&copy, want.as_slice()));
     Ok(())
 }
 
 #[test]
 fn gathered_behind_a_fault(rt: HostRuntime) -> Result<(), Fail> {
-    let mut gather = Gather::new(rt.alloc());
-    gather.feed(b"out a.h\n")?;
-    gather.feed(b"a:b")?;
-    let Ok(parsed) = gather.finish() else {
-        return Err(Fail::new("no memory"));
-    };
+    let parsed = gathered(rt.alloc(), b"out a.h\n", b"a:b")?;
     assert_eq!(rt; parsed.bytes(), b"out a.h\na:b".as_slice());
     assert!(rt; matches!(parsed.result(), Err(DepFault::NoColon(0))));
     Ok(())
@@ -136,10 +162,7 @@ fn gathered_behind_a_fault(rt: HostRuntime) -> Result<(), Fail> {
 fn parsed_of_bytes(rt: HostRuntime) -> Result<(), Fail> {
     let bytes = Vec::from_slice(rt.alloc(), b"a:b")?;
     let parsed = Parsed::of(rt.alloc(), bytes)?;
-    match parsed.result() {
-        Ok(paths) => assert!(rt; has_paths(paths, [b"b".as_slice()].as_slice())),
-        Err(fault) => return Err(Fail::from(fault)),
-    }
+    assert!(rt; reads_as(&parsed, [b"b".as_slice()].as_slice()));
     Ok(())
 }
 
@@ -173,15 +196,30 @@ fn finish_again(reader: Reader) -> Result<Paths, DepFault> {
     }
 }
 
+/// Reads a text piece by piece. Tries each call once more if memory was refused.
+fn read_again(alloc: Global, text: &[u8]) -> Result<Paths, DepFault> {
+    let mut reader = Reader::new(alloc);
+    for piece in text.chunks(7) {
+        feed_again(&mut reader, piece)?;
+    }
+    finish_again(reader)
+}
+
 /// Collects a text piece by piece. Tries each call once more if memory was refused.
-fn gather_again(alloc: Global, text: &[u8]) -> Result<Parsed, Memory> {
-    let mut gather = Gather::new(alloc);
+fn feed_pieces(gather: &mut Gather, text: &[u8]) -> Result<(), Memory> {
     for piece in text.chunks(7) {
         match gather.feed(piece) {
             Ok(()) => {}
             Err(_) => gather.feed(piece)?,
         }
     }
+    Ok(())
+}
+
+/// Collects a text and reads it. Tries each call once more if memory was refused.
+fn gather_again(alloc: Global, text: &[u8]) -> Result<Parsed, Memory> {
+    let mut gather = Gather::new(alloc);
+    feed_pieces(&mut gather, text)?;
     match gather.finish() {
         Ok(parsed) => Ok(parsed),
         Err((gather, _)) => match gather.finish() {
@@ -205,24 +243,39 @@ fn reads_after_refused_memory(rt: HostRuntime) -> Result<(), DepFault> {
         b"/usr/include/y.h".as_slice(),
         b"z".as_slice(),
     ];
-    let mut reader = Reader::new(rt.alloc());
-    for piece in REFUSED_ONCE.chunks(7) {
-        feed_again(&mut reader, piece)?;
-    }
-    let paths = finish_again(reader)?;
+    let paths = read_again(rt.alloc(), REFUSED_ONCE)?;
     assert!(rt; has_paths(&paths, want.as_slice()));
     Ok(())
+}
+
+/// Copies a depfile. Tries once more if memory was refused.
+fn copy_again(alloc: Global, parsed: &Parsed) -> Result<Parsed, Memory> {
+    match parsed.copy(alloc) {
+        Ok(copy) => Ok(copy),
+        Err(_) => parsed.copy(alloc),
+    }
+}
+
+/// Checks whether a depfile has these bytes and this number of paths.
+fn has_bytes(parsed: &Parsed, bytes: &[u8], paths: usize) -> bool {
+    match parsed.result() {
+        Ok(found) => parsed.bytes() == bytes && found.len() == paths,
+        Err(_) => false,
+    }
+}
+
+/// Collects a text and copies it. Checks whether the copy has the text and this number of paths.
+fn is_gathered(alloc: Global, text: &[u8], paths: usize) -> Result<bool, Memory> {
+    let parsed = gather_again(alloc, text)?;
+    let copied = copy_again(alloc, &parsed);
+    drop(parsed);
+    let copy = copied?;
+    Ok(has_bytes(&copy, text, paths))
 }
 
 /// Checks the same for a text that is collected, and for a copy of it.
 #[test]
 fn gathers_after_refused_memory(rt: HostRuntime) -> Result<(), Memory> {
-    let parsed = gather_again(rt.alloc(), REFUSED_ONCE)?;
-    let copy = match parsed.copy(rt.alloc()) {
-        Ok(copy) => copy,
-        Err(_) => parsed.copy(rt.alloc())?,
-    };
-    assert_eq!(rt; copy.bytes(), REFUSED_ONCE);
-    assert!(rt; matches!(copy.result(), Ok(paths) if paths.len() == 5));
+    assert!(rt; is_gathered(rt.alloc(), REFUSED_ONCE, 5)?);
     Ok(())
 }

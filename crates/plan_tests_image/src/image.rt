@@ -5,6 +5,7 @@ use plan_image::*;
 use plan_text::{Counted, Items, RowList};
 use std::alloc::Global;
 use std::io::{self, Write};
+use std::process::Abort;
 use std::test::Fail;
 
 /// An image of version 1 with one edge.
@@ -22,7 +23,10 @@ const OPEN: [u8; 161] =
 /// Returns the fault of bytes, or `None` if they are an image.
 fn fault_of(alloc: Global, bytes: &[u8]) -> Option<ImageFault> {
     match read_image(alloc, bytes) {
-        Ok(_) => None,
+        Ok(image) => {
+            drop(image);
+            None
+        }
         Err(fault) => Some(fault),
     }
 }
@@ -31,17 +35,40 @@ fn fault_of(alloc: Global, bytes: &[u8]) -> Option<ImageFault> {
 fn is_printed(alloc: Global, image: &Image, room: usize, bytes: &[u8]) -> Result<bool, ImageFault> {
     let mut room = Vec::with_capacity(alloc, room)?;
     let mut out = Counted::new(Vec::new(alloc));
-    Ok(print_image(image, &mut room, &mut out).is_ok() && out.into_writer().as_slice() == bytes)
+    let done = print_image(image, &mut room, &mut out).is_ok();
+    let printed = out.into_writer();
+    Ok(done && printed.as_slice() == bytes)
+}
+
+/// Checks whether the tables make an image that is printed as these bytes.
+fn are_printed(alloc: Global, parts: Parts, bytes: &[u8]) -> Result<bool, ImageFault> {
+    match Image::new(parts) {
+        Ok(image) => {
+            let printed = is_printed(alloc, &image, 65_536, bytes);
+            drop(image);
+            printed
+        }
+        Err((parts, fault)) => {
+            drop(parts);
+            Err(fault)
+        }
+    }
 }
 
 /// Checks whether an image that is read, taken apart and put together again is printed as it was.
 fn comes_back(alloc: Global, bytes: &[u8]) -> Result<bool, ImageFault> {
     let image = read_image(alloc, bytes)?;
-    let printed = is_printed(alloc, &image, 7, bytes)?;
-    match Image::new(image.into_parts()) {
-        Ok(again) => Ok(printed && is_printed(alloc, &again, 65_536, bytes)?),
-        Err((_, fault)) => Err(fault),
-    }
+    let printed = is_printed(alloc, &image, 7, bytes);
+    let again = are_printed(alloc, image.into_parts(), bytes);
+    Ok(printed? && again?)
+}
+
+/// Checks whether an image has this listing.
+fn has_listing(alloc: Global, image: &Image, text: &[u8]) -> bool {
+    let mut out = Counted::new(Vec::new(alloc));
+    let done = listing(image, &mut out).is_ok();
+    let listed = out.into_writer();
+    done && listed.as_slice() == text
 }
 
 /// Checks whether the bytes are an image with this listing.
@@ -49,8 +76,9 @@ fn is_listed(alloc: Global, bytes: &[u8], text: &[u8]) -> bool {
     let Ok(image) = read_image(alloc, bytes) else {
         return false;
     };
-    let mut out = Counted::new(Vec::new(alloc));
-    listing(&image, &mut out).is_ok() && out.into_writer().as_slice() == text
+    let listed = has_listing(alloc, &image, text);
+    drop(image);
+    listed
 }
 
 #[test]
@@ -82,20 +110,31 @@ fn listings(rt: HostRuntime) {
     assert!(rt; is_listed(rt.alloc(), OPEN.as_slice(), text.as_slice()));
 }
 
+/// Checks what an image of one edge has.
+fn has_one_edge(rt: &impl Abort, image: &Image) {
+    assert_eq!(rt; edge_of(image, b"a"), Some(0));
+    assert_eq!(rt; edge_of(image, b"b"), None);
+    assert_eq!(rt; image.parts().files.row(0), b"a".as_slice());
+    assert_eq!(rt; image.parts().texts.len(), 1);
+}
+
+/// Checks that the code of edge 0 is `End`, and that there is no edge 1.
+fn has_code_end(rt: &impl Abort, image: &Image) {
+    assert!(rt; image.instr(0, 0) == Some(Instr::End));
+    assert!(rt; image.instr(0, 1) == None);
+    assert_eq!(rt; image.edge_code(0).len(), 1);
+    assert!(rt; image.edge_code(0).instr(0) == Some(Instr::End));
+    assert!(rt; image.edge_code(0).instr(1) == None);
+    assert_eq!(rt; image.edge_code(1).len(), 0);
+}
+
 #[test]
 fn what_an_image_has(rt: HostRuntime) -> Result<(), Fail> {
     for bytes in [ONE_EDGE.as_slice(), ONE_SHARED.as_slice()] {
         let image = read_image(rt.alloc(), bytes)?;
-        assert_eq!(rt; edge_of(&image, b"a"), Some(0));
-        assert_eq!(rt; edge_of(&image, b"b"), None);
-        assert!(rt; image.instr(0, 0) == Some(Instr::End));
-        assert!(rt; image.instr(0, 1) == None);
-        assert_eq!(rt; image.edge_code(0).len(), 1);
-        assert!(rt; image.edge_code(0).instr(0) == Some(Instr::End));
-        assert!(rt; image.edge_code(0).instr(1) == None);
-        assert_eq!(rt; image.edge_code(1).len(), 0);
-        assert_eq!(rt; image.parts().files.row(0), b"a".as_slice());
-        assert_eq!(rt; image.parts().texts.len(), 1);
+        has_one_edge(&rt, &image);
+        has_code_end(&rt, &image);
+        drop(image);
     }
     Ok(())
 }
@@ -171,7 +210,7 @@ fn refused_counts(rt: HostRuntime) {
 
 /// Creates tables of one edge without outputs, with this code and these defaults.
 fn tables(alloc: Global, code: EdgeCode, defaults: &[u32]) -> Result<Parts, Fail> {
-    let mut edges = Edges::new(alloc);
+    let defaults = Vec::from_slice(alloc, defaults)?;
     let edge = Edge {
         sort: Sort::Phony,
         pool: None,
@@ -181,6 +220,7 @@ fn tables(alloc: Global, code: EdgeCode, defaults: &[u32]) -> Result<Parts, Fail
         waits: Items::empty(alloc),
         code,
     };
+    let mut edges = Edges::new(alloc);
     edges.push(alloc, &edge)?;
     Ok(Parts {
         texts: RowList::new(alloc),
@@ -189,7 +229,7 @@ fn tables(alloc: Global, code: EdgeCode, defaults: &[u32]) -> Result<Parts, Fail
         slots: Items::empty(alloc),
         bodies: None,
         edges,
-        defaults: Items::new(Vec::from_slice(alloc, defaults)?),
+        defaults: Items::new(defaults),
     })
 }
 
@@ -197,8 +237,15 @@ fn tables(alloc: Global, code: EdgeCode, defaults: &[u32]) -> Result<Parts, Fail
 /// accepted.
 fn handed_back(parts: Parts) -> Option<(usize, ImageFault)> {
     match Image::new(parts) {
-        Ok(_) => None,
-        Err((parts, fault)) => Some((parts.edges.len(), fault)),
+        Ok(image) => {
+            drop(image);
+            None
+        }
+        Err((parts, fault)) => {
+            let edges = parts.edges.len();
+            drop(parts);
+            Some((edges, fault))
+        }
     }
 }
 
@@ -279,54 +326,65 @@ impl Write for Failing {
     }
 }
 
+/// Checks whether an image is listed to a writer that fails after `left` writes.
+fn is_listed_to(image: &Image, left: u32) -> bool {
+    let mut out = Counted::new(Failing { left });
+    match listing(image, &mut out) {
+        Ok(()) => true,
+        Err(WriteFault) => false,
+    }
+}
+
 #[test]
 fn failed_writes(rt: HostRuntime) -> Result<(), Fail> {
     let image = read_image(rt.alloc(), ONE_EDGE.as_slice())?;
     for left in 0..40 {
-        let mut out = Counted::new(Failing { left });
-        assert!(rt; matches!(listing(&image, &mut out), Err(WriteFault)));
+        assert!(rt; !is_listed_to(&image, left));
     }
-    let mut out = Counted::new(Failing { left: 1000 });
-    assert!(rt; listing(&image, &mut out).is_ok());
+    assert!(rt; is_listed_to(&image, 1000));
+    drop(image);
     Ok(())
+}
+
+/// Checks whether an image is printed to a writer that fails after `left` writes.
+fn is_printed_to(image: &Image, room: &mut Vec<u8>, left: u32) -> bool {
+    let mut out = Counted::new(Failing { left });
+    match print_image(image, room, &mut out) {
+        Ok(()) => true,
+        Err(WriteFault) => false,
+    }
 }
 
 #[test]
 fn failed_prints(rt: HostRuntime) -> Result<(), Fail> {
-    let image = read_image(rt.alloc(), ONE_EDGE.as_slice())?;
     let mut room = Vec::with_capacity(rt.alloc(), 16)?;
+    let image = read_image(rt.alloc(), ONE_EDGE.as_slice())?;
     for left in 0..5 {
-        let mut out = Counted::new(Failing { left });
-        assert!(rt; matches!(print_image(&image, &mut room, &mut out), Err(WriteFault)));
+        assert!(rt; !is_printed_to(&image, &mut room, left));
     }
-    let mut out = Counted::new(Failing { left: 5 });
-    assert!(rt; print_image(&image, &mut room, &mut out).is_ok());
+    assert!(rt; is_printed_to(&image, &mut room, 5));
+    drop(image);
+    Ok(())
+}
+
+/// Checks that an image is printed as these bytes by a buffer with any capacity up to one above their number.
+fn fills_room(rt: &impl Abort, alloc: Global, image: &Image, bytes: &[u8]) -> Result<(), Fail> {
+    for room in 0..bytes.len().saturating_add(2) {
+        assert!(rt; is_printed(alloc, image, room, bytes)?);
+    }
     Ok(())
 }
 
 #[test]
 fn room_is_filled(rt: HostRuntime) -> Result<(), Fail> {
     let image = read_image(rt.alloc(), OPEN.as_slice())?;
-    for room in 0..OPEN.len() + 2 {
-        assert!(rt; is_printed(rt.alloc(), &image, room, OPEN.as_slice())?);
-    }
-    Ok(())
+    let filled = fills_room(&rt, rt.alloc(), &image, OPEN.as_slice());
+    drop(image);
+    filled
 }
 
-#[test]
-fn lent_edges(rt: HostRuntime) -> Result<(), Fail> {
-    let image = read_image(rt.alloc(), OPEN.as_slice())?;
-    let edges = &image.parts().edges;
-    assert_eq!(rt; edges.len(), 2);
-    let mut rank = None;
-    for number in 0..edges.len() {
-        rank = Some(edges.edge(number).rank);
-    }
-    assert_eq!(rt; rank, Some(8));
-    assert!(rt; edges.get(2).is_none());
-    assert_eq!(rt; edges.rank(0), Some(7));
-    assert_eq!(rt; edges.rank(2), None);
-    assert!(rt; edges.waits(2).is_none());
+/// Checks edge 1 of two.
+fn has_edge_one(rt: &impl Abort, edges: &Edges) -> Result<(), Fail> {
     let Some(edge) = edges.get(1) else {
         return Err(Fail::new("another edge"));
     };
@@ -338,9 +396,52 @@ fn lent_edges(rt: HostRuntime) -> Result<(), Fail> {
         Some(CodeRef::Shared(body, operands)) => {
             assert_eq!(rt; body, 0);
             assert_eq!(rt; operands, [1, 2, 3].as_slice());
+            Ok(())
         }
-        _ => return Err(Fail::new("another code")),
+        _ => Err(Fail::new("another code")),
     }
+}
+
+/// Checks the ranks of two edges, and that there is no third one.
+fn has_ranks(rt: &impl Abort, edges: &Edges) {
+    assert_eq!(rt; edges.len(), 2);
+    let mut rank = None;
+    for number in 0..edges.len() {
+        rank = Some(edges.edge(number).rank);
+    }
+    assert_eq!(rt; rank, Some(8));
+    assert!(rt; edges.get(2).is_none());
+    assert_eq!(rt; edges.rank(0), Some(7));
+    assert_eq!(rt; edges.rank(2), None);
+    assert!(rt; edges.waits(2).is_none());
+}
+
+#[test]
+fn lent_edges(rt: HostRuntime) -> Result<(), Fail> {
+    let image = read_image(rt.alloc(), OPEN.as_slice())?;
+    has_ranks(&rt, &image.parts().edges);
+    let seen = has_edge_one(&rt, &image.parts().edges);
+    drop(image);
+    seen
+}
+
+/// Checks that the code of edge 0 is its own, that it is this code, and that it ends with `End`.
+fn has_code(rt: &impl Abort, edges: &Edges, code: &[Instr]) -> Result<(), Fail> {
+    let Some(CodeRef::Own(instrs)) = edges.code(0) else {
+        return Err(Fail::new("another code"));
+    };
+    assert_eq!(rt; instrs.len(), code.len());
+    for (place, instr) in code.iter().enumerate() {
+        assert!(rt; instrs.get(place) == Some(*instr));
+    }
+    assert!(rt; instrs.get(code.len()) == None);
+    let mut end = None;
+    for place in 0..instrs.len() {
+        if instrs.instr(place) == Instr::End {
+            end = Some(place);
+        }
+    }
+    assert_eq!(rt; end, code.len().checked_sub(1));
     Ok(())
 }
 
@@ -349,20 +450,7 @@ fn lent_instructions(rt: HostRuntime) -> Result<(), Fail> {
     let code = [Instr::Stat(4_294_967_295), Instr::Flag(true), Instr::End];
     let own = EdgeCode::Own(Items::new(Vec::from_slice(rt.alloc(), code.as_slice())?));
     let parts = tables(rt.alloc(), own, [].as_slice())?;
-    let Some(CodeRef::Own(instrs)) = parts.edges.code(0) else {
-        return Err(Fail::new("another code"));
-    };
-    assert_eq!(rt; instrs.len(), 3);
-    for (place, instr) in code.iter().enumerate() {
-        assert!(rt; instrs.get(place) == Some(*instr));
-    }
-    assert!(rt; instrs.get(3) == None);
-    let mut end = None;
-    for place in 0..instrs.len() {
-        if instrs.instr(place) == Instr::End {
-            end = Some(place);
-        }
-    }
-    assert_eq!(rt; end, Some(2));
-    Ok(())
+    let seen = has_code(&rt, &parts.edges, code.as_slice());
+    drop(parts);
+    seen
 }

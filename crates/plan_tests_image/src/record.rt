@@ -4,8 +4,9 @@ use byteorder::{BigEndian, ByteOrder};
 use plan_record::*;
 use plan_text::{Counted, Items, Memory, RowList};
 use plan_verify::PathList;
-use std::alloc::Global;
+use std::alloc::{AllocError, Global};
 use std::io::{self, Write};
+use std::process::Abort;
 use std::test::Fail;
 
 /// The entry of output `a` with the command `t`, the basis 7 and no paths.
@@ -61,22 +62,44 @@ fn spelling_of(alloc: Global, entry: &Entry) -> Result<Vec<u8>, WriteFault> {
     Ok(sink.into_writer())
 }
 
+/// Checks that an entry is that of `ENTRY`.
+fn is_entry(rt: &impl Abort, entry: &Entry) -> Result<(), Memory> {
+    assert_eq!(rt; entry.output(), b"a".as_slice());
+    assert_eq!(rt; entry.command(), b"t".as_slice());
+    assert_eq!(rt; entry.basis(), 7);
+    assert!(rt; entry.paths()?.first().is_none());
+    Ok(())
+}
+
+/// Checks that a record has the entry of `ENTRY` and no other one.
+fn has_one_entry(rt: &impl Abort, alloc: Global, record: &Record) -> Result<(), Memory> {
+    assert_eq!(rt; record.count(), 1);
+    assert!(rt; record.entry(alloc, b"b")?.is_none());
+    match record.entry(alloc, b"a")? {
+        Some(entry) => is_entry(rt, &entry),
+        None => panic!(rt; "no entry"),
+    }
+}
+
 #[test]
 fn entry_of_24_bytes(rt: HostRuntime) -> Result<(), Fail> {
     assert!(rt; entry_bytes(20, 1, b'a', 7, 0) == ENTRY);
     let (record, len) = record_of(rt.alloc(), &ENTRY)?;
     assert_eq!(rt; len, 24);
-    assert_eq!(rt; record.count(), 1);
-    match record.entry(rt.alloc(), b"a")? {
-        Some(entry) => {
-            assert_eq!(rt; entry.output(), b"a".as_slice());
-            assert_eq!(rt; entry.command(), b"t".as_slice());
-            assert_eq!(rt; entry.basis(), 7);
-            assert!(rt; entry.paths()?.first().is_none());
-        }
-        None => panic!(rt; "no entry"),
+    has_one_entry(&rt, rt.alloc(), &record)?;
+    Ok(())
+}
+
+/// Checks that the last entries of these outputs have these bases.
+fn has_bases(
+    rt: &impl Abort,
+    alloc: Global,
+    record: &Record,
+    bases: &[(&[u8], u64)],
+) -> Result<(), Memory> {
+    for (output, basis) in bases {
+        assert_eq!(rt; basis_of(alloc, record, output)?, Some(*basis));
     }
-    assert!(rt; record.entry(rt.alloc(), b"b")?.is_none());
     Ok(())
 }
 
@@ -117,49 +140,75 @@ fn last_of_an_output(rt: HostRuntime) -> Result<(), Fail> {
     }
     let (record, len) = record_of(rt.alloc(), &file)?;
     assert_eq!(rt; len, 96);
-    for (output, basis) in [
+    let bases = [
         (b"a".as_slice(), 3),
         (b"b".as_slice(), 2),
         (b"c".as_slice(), 4),
-    ] {
-        assert_eq!(rt; basis_of(rt.alloc(), &record, output)?, Some(basis));
+    ];
+    has_bases(&rt, rt.alloc(), &record, bases.as_slice())?;
+    Ok(())
+}
+
+/// Returns the bytes of entries of these outputs, each with its basis.
+fn file_of(alloc: Global, entries: &[(u8, u64)]) -> Result<Vec<u8>, AllocError> {
+    let mut file = Vec::new(alloc);
+    for (output, basis) in entries {
+        file.extend_from_slice(&entry_bytes(20, 1, *output, *basis, 0))?;
     }
+    Ok(file)
+}
+
+/// Checks that a record has three outputs and is compacted to these bytes.
+fn compacts_to(rt: &impl Abort, alloc: Global, record: &Record, left: &[u8]) -> Result<(), Memory> {
+    assert_eq!(rt; record.count_outputs(), 3);
+    let last = record.last_entries(alloc)?;
+    assert_eq!(rt; last.len(), 3);
+    let bytes = record.compacted_bytes(alloc)?;
+    assert_eq!(rt; bytes.as_slice(), left);
+    Ok(())
+}
+
+/// Checks that the bytes of a record of three outputs are compacted to these.
+fn is_compacted(rt: &impl Abort, alloc: Global, file: &[u8], left: &[u8]) -> Result<(), Memory> {
+    let (record, _) = record_of(alloc, file)?;
+    compacts_to(rt, alloc, &record, left)
+}
+
+/// Checks that all bytes are entries, which have these bytes as their spellings.
+fn is_spelled_again(rt: &impl Abort, alloc: Global, file: &[u8]) -> Result<(), Memory> {
+    let (entries, len) = read_entries(alloc, Vec::from_slice(alloc, file)?)?;
+    assert_eq!(rt; len, file.len() as u64);
+    assert_eq!(rt; spellings(alloc, &entries)?.as_slice(), file);
     Ok(())
 }
 
 /// Checks that the last entries stay in the order of the record, and that compacting a record twice changes nothing.
 #[test]
 fn compacted_record(rt: HostRuntime) -> Result<(), Fail> {
-    let alloc = rt.alloc();
-    let mut file = Vec::new(alloc);
-    for (output, basis) in [(b'a', 1), (b'b', 2), (b'a', 3), (b'c', 4), (b'a', 5)] {
-        file.extend_from_slice(&entry_bytes(20, 1, output, basis, 0))?;
-    }
-    let mut left = Vec::new(alloc);
-    for (output, basis) in [(b'b', 2), (b'c', 4), (b'a', 5)] {
-        left.extend_from_slice(&entry_bytes(20, 1, output, basis, 0))?;
-    }
-    let (record, _) = record_of(alloc, &file)?;
-    assert_eq!(rt; record.count_outputs(), 3);
-    assert_eq!(rt; record.last_entries(alloc)?.len(), 3);
-    assert_eq!(rt; record.compacted_bytes(alloc)?.as_slice(), left.as_slice());
-    let (entries, len) = read_entries(alloc, Vec::from_slice(alloc, &file)?)?;
-    assert_eq!(rt; len, 120);
-    assert_eq!(rt; spellings(alloc, &entries)?.as_slice(), file.as_slice());
-    let (again, _) = record_of(alloc, &left)?;
-    assert_eq!(rt; again.compacted_bytes(alloc)?.as_slice(), left.as_slice());
+    let entries = [(b'a', 1), (b'b', 2), (b'a', 3), (b'c', 4), (b'a', 5)];
+    let file = file_of(rt.alloc(), entries.as_slice())?;
+    let left = file_of(rt.alloc(), [(b'b', 2), (b'c', 4), (b'a', 5)].as_slice())?;
+    is_compacted(&rt, rt.alloc(), &file, &left)?;
+    is_spelled_again(&rt, rt.alloc(), &file)?;
+    is_compacted(&rt, rt.alloc(), &left, &left)?;
+    Ok(())
+}
+
+/// Adds an entry of an output with the command `t`, a basis and no paths.
+fn add_plain(alloc: Global, record: &mut Record, output: &[u8], basis: u64) -> Result<(), Fail> {
+    let entry = Entry::new(alloc, output, b"t", basis, &[])?;
+    record.add(alloc, &entry)?;
     Ok(())
 }
 
 #[test]
 fn added_behind_the_file(rt: HostRuntime) -> Result<(), Fail> {
     let (mut record, _) = record_of(rt.alloc(), &ENTRY)?;
-    record.add(rt.alloc(), &Entry::new(rt.alloc(), b"b", b"t", 8, &[])?)?;
-    record.add(rt.alloc(), &Entry::new(rt.alloc(), b"a", b"t", 9, &[])?)?;
+    add_plain(rt.alloc(), &mut record, b"b", 8)?;
+    add_plain(rt.alloc(), &mut record, b"a", 9)?;
     assert_eq!(rt; record.count(), 3);
-    for (output, basis) in [(b"a".as_slice(), 9), (b"b".as_slice(), 8)] {
-        assert_eq!(rt; basis_of(rt.alloc(), &record, output)?, Some(basis));
-    }
+    let bases = [(b"a".as_slice(), 9), (b"b".as_slice(), 8)];
+    has_bases(&rt, rt.alloc(), &record, bases.as_slice())?;
     Ok(())
 }
 
@@ -185,62 +234,113 @@ fn spelling_at(alloc: Global, record: &Record, number: usize) -> Result<Vec<u8>,
     }
 }
 
+/// Adds the entry of an output with the command `t`, a basis and two paths.
+fn add_of_two(
+    alloc: Global,
+    record: &mut Record,
+    output: &[u8],
+    basis: u64,
+    first: &[u8],
+    second: &[u8],
+) -> Result<(), Fail> {
+    let entry = entry_of_two(alloc, output, basis, first, second)?;
+    record.add(alloc, &entry)?;
+    Ok(())
+}
+
+/// Checks that a record has four entries of three outputs, that entry 0 is `ENTRY` and that entry 2 is `SHARED`.
+fn has_shared_paths(rt: &impl Abort, alloc: Global, record: &Record) -> Result<(), Fail> {
+    assert_eq!(rt; record.count(), 4);
+    assert_eq!(rt; record.count_outputs(), 3);
+    let entry = spelling_at(alloc, record, 0)?;
+    assert_eq!(rt; entry.as_slice(), ENTRY.as_slice());
+    let entry = spelling_at(alloc, record, 2)?;
+    assert_eq!(rt; entry.as_slice(), SHARED.as_slice());
+    assert!(rt; record.nth(alloc, 4)?.is_none());
+    Ok(())
+}
+
 /// Checks that entries that share paths come back whole, next to one of the file.
 #[test]
 fn added_entries_that_share_paths(rt: HostRuntime) -> Result<(), Fail> {
     let alloc = rt.alloc();
     let (mut record, _) = record_of(alloc, &ENTRY)?;
-    record.add(alloc, &entry_of_two(alloc, b"b", 8, b"x.h", b"y.h")?)?;
-    record.add(alloc, &entry_of_two(alloc, b"c", 9, b"y.h", b"y.h")?)?;
-    record.add(alloc, &entry_of_two(alloc, b"b", 10, b"x.h", b"z.h")?)?;
-    assert_eq!(rt; record.count(), 4);
-    assert_eq!(rt; record.count_outputs(), 3);
-    assert_eq!(rt;
-        spelling_at(alloc, &record, 0)?.as_slice(),
-        ENTRY.as_slice()
-    );
-    assert_eq!(rt;
-        spelling_at(alloc, &record, 2)?.as_slice(),
-        SHARED.as_slice()
-    );
-    assert!(rt; record.nth(alloc, 4)?.is_none());
+    add_of_two(alloc, &mut record, b"b", 8, b"x.h", b"y.h")?;
+    add_of_two(alloc, &mut record, b"c", 9, b"y.h", b"y.h")?;
+    add_of_two(alloc, &mut record, b"b", 10, b"x.h", b"z.h")?;
+    has_shared_paths(&rt, alloc, &record)?;
     assert_eq!(rt; basis_of(alloc, &record, b"b")?, Some(10));
     assert_eq!(rt; basis_of(alloc, &record, b"d")?, None);
     Ok(())
+}
+
+/// Returns the spelling of `ENTRY`, and behind it that of the entry of an output with a basis and two paths.
+fn behind_entry(
+    alloc: Global,
+    output: &[u8],
+    basis: u64,
+    first: &[u8],
+    second: &[u8],
+) -> Result<Vec<u8>, Fail> {
+    let last = entry_of_two(alloc, output, basis, first, second)?;
+    let spelling = spelling_of(alloc, &last)?;
+    let mut left = Vec::from_slice(alloc, &ENTRY)?;
+    left.extend_from_slice(&spelling)?;
+    Ok(left)
 }
 
 /// Checks that a compacted record has the last ones of the entries of the file and of those that were added.
 #[test]
 fn compacted_with_added_entries(rt: HostRuntime) -> Result<(), Fail> {
     let alloc = rt.alloc();
+    let left = behind_entry(alloc, b"b", 10, b"x.h", b"z.h")?;
     let (mut record, _) = record_of(alloc, &ENTRY)?;
-    record.add(alloc, &entry_of_two(alloc, b"b", 8, b"x.h", b"y.h")?)?;
-    let last = entry_of_two(alloc, b"b", 10, b"x.h", b"z.h")?;
-    record.add(alloc, &last)?;
-    let mut left = Vec::from_slice(alloc, &ENTRY)?;
-    left.extend_from_slice(&spelling_of(alloc, &last)?)?;
+    add_of_two(alloc, &mut record, b"b", 8, b"x.h", b"y.h")?;
+    add_of_two(alloc, &mut record, b"b", 10, b"x.h", b"z.h")?;
     assert_eq!(rt; record.compacted_bytes(alloc)?.as_slice(), left.as_slice());
     Ok(())
+}
+
+/// Returns the entry of an output with the basis 9 and one path of this length.
+fn entry_of_one(
+    alloc: Global,
+    output: &[u8],
+    command: &[u8],
+    path: usize,
+) -> Result<Entry, EntryFault> {
+    let mut paths = Vec::new(alloc);
+    paths.push(Items::new(vec![in alloc; b'p'; path]?))?;
+    Entry::new(alloc, output, command, 9, &paths)
+}
+
+/// Checks whether a record has an entry of an output with this command and the basis 9.
+fn has_nine(alloc: Global, record: &Record, output: &[u8], command: &[u8]) -> Result<bool, Memory> {
+    match record.entry(alloc, output)? {
+        Some(read) => Ok(read.command() == command && read.basis() == 9),
+        None => Ok(false),
+    }
+}
+
+/// Checks whether the bytes are a whole record with an entry of an output with this command and the basis 9.
+fn is_read(alloc: Global, bytes: Vec<u8>, output: &[u8], command: &[u8]) -> Result<bool, Memory> {
+    let len = bytes.len() as u64;
+    let (record, front) = load(alloc, bytes)?;
+    let found = has_nine(alloc, &record, output, command)?;
+    Ok(found && front == len)
 }
 
 /// Checks whether parts of these lengths make an entry that is read again as it is.
 fn makes_entry(alloc: Global, output: usize, command: usize, path: usize) -> Result<bool, Fail> {
     let output = vec![in alloc; b'o'; output]?;
     let command = vec![in alloc; b'c'; command]?;
-    let mut paths = Vec::new(alloc);
-    paths.push(Items::new(vec![in alloc; b'p'; path]?))?;
-    let entry = match Entry::new(alloc, &output, &command, 9, &paths) {
-        Ok(entry) => entry,
-        Err(EntryFault::OutsideLimits) => return Ok(false),
-        Err(fault) => return Err(Fail::from(fault)),
-    };
-    let bytes = spelling_of(alloc, &entry)?;
-    let len = bytes.len() as u64;
-    let (record, front) = load(alloc, bytes)?;
-    Ok(match record.entry(alloc, &output)? {
-        Some(read) => front == len && read.command() == command.as_slice() && read.basis() == 9,
-        None => false,
-    })
+    match entry_of_one(alloc, &output, &command, path) {
+        Ok(entry) => {
+            let bytes = spelling_of(alloc, &entry)?;
+            Ok(is_read(alloc, bytes, &output, &command)?)
+        }
+        Err(EntryFault::OutsideLimits) => Ok(false),
+        Err(fault) => Err(Fail::from(fault)),
+    }
 }
 
 #[test]
@@ -255,29 +355,62 @@ fn limits(rt: HostRuntime) -> Result<(), Fail> {
     Ok(())
 }
 
-#[test]
-fn paths_one_by_one(rt: HostRuntime) -> Result<(), Fail> {
-    let mut named = Vec::new(rt.alloc());
+/// Returns a copy of the entry of `a.o` with the paths `a.h` and `b/c.h`.
+fn entry_of_paths(alloc: Global) -> Result<Entry, Fail> {
+    let mut named = Vec::new(alloc);
     for name in [b"a.h".as_slice(), b"b/c.h".as_slice()] {
-        let mut path = Vec::new(rt.alloc());
-        path.extend_from_slice(name)?;
-        named.push(Items::new(path))?;
+        named.push(Items::new(Vec::from_slice(alloc, name)?))?;
     }
-    let entry = Entry::new(rt.alloc(), b"a.o", b"cc -c a.c", 5, &named)?.copy()?;
-    let rows = entry.paths()?.into_rows(rt.alloc())?;
+    let entry = Entry::new(alloc, b"a.o", b"cc -c a.c", 5, &named)?;
+    Ok(entry.copy()?)
+}
+
+/// Returns the list that shares the paths of an entry.
+fn shared_paths(alloc: Global, entry: &Entry) -> Result<PathList, Fail> {
+    let rows = entry.paths()?.into_rows(alloc)?;
+    Ok(PathList::of_shared_rows(alloc, rows)?)
+}
+
+/// Checks that the paths of an entry are these rows.
+fn has_rows(rt: &impl Abort, alloc: Global, entry: &Entry) -> Result<(), Fail> {
+    let rows = entry.paths()?.into_rows(alloc)?;
     assert_eq!(rt; rows.len(), 2);
     assert_eq!(rt; rows.row(1), b"b/c.h".as_slice());
-    let list = PathList::of_shared_rows(rt.alloc(), rows)?.copy()?;
+    Ok(())
+}
+
+/// Checks the list of the paths of an entry.
+fn has_list(rt: &impl Abort, alloc: Global, entry: &Entry) -> Result<(), Fail> {
+    let again = shared_paths(alloc, entry)?;
+    let list = again.copy()?;
     assert_eq!(rt; list.len(), 2);
     assert_eq!(rt; list.path(0), b"a.h".as_slice());
     assert_eq!(rt; list.path(2), b"".as_slice());
-    let again = PathList::of_shared_rows(rt.alloc(), entry.paths()?.into_rows(rt.alloc())?)?;
     assert!(rt; list.is_same(&again));
-    assert!(rt; !list.is_same(&PathList::empty(rt.alloc())?));
+    let other = shared_paths(alloc, entry)?;
+    assert!(rt; list.is_same(&other));
+    let empty = PathList::empty(alloc)?;
+    assert!(rt; !list.is_same(&empty));
+    Ok(())
+}
+
+/// Checks whether the first path is this one.
+fn is_first(paths: &Paths, path: &[u8]) -> bool {
+    match paths.first() {
+        Some(first) => first == path,
+        None => false,
+    }
+}
+
+#[test]
+fn paths_one_by_one(rt: HostRuntime) -> Result<(), Fail> {
+    let entry = entry_of_paths(rt.alloc())?;
+    has_rows(&rt, rt.alloc(), &entry)?;
+    has_list(&rt, rt.alloc(), &entry)?;
     let mut paths = entry.paths()?;
-    assert_eq!(rt; paths.first(), Some(b"a.h".as_slice()));
+    assert!(rt; is_first(&paths, b"a.h"));
     paths.advance();
-    assert_eq!(rt; paths.first(), Some(b"b/c.h".as_slice()));
+    assert!(rt; is_first(&paths, b"b/c.h"));
     paths.advance();
     assert!(rt; paths.first().is_none());
     paths.advance();
@@ -293,20 +426,30 @@ fn own(alloc: Global, first: &[u8], second: &[u8]) -> Result<PathList, Fail> {
     Ok(PathList::new(alloc, rows)?)
 }
 
+/// Checks whether a list has the same paths as one that owns these two, in both directions.
+fn is_same(
+    alloc: Global,
+    list: &PathList,
+    first: &[u8],
+    second: &[u8],
+) -> Result<(bool, bool), Fail> {
+    let other = own(alloc, first, second)?;
+    Ok((list.is_same(&other), other.is_same(list)))
+}
+
 /// Checks that lists of paths are compared by their paths, whether they own them or share them.
 #[test]
 fn same_lists_of_paths(rt: HostRuntime) -> Result<(), Fail> {
-    let alloc = rt.alloc();
-    let mut named = Vec::new(alloc);
-    for name in [b"a.h".as_slice(), b"b/c.h".as_slice()] {
-        named.push(Items::new(Vec::from_slice(alloc, name)?))?;
+    let entry = entry_of_paths(rt.alloc())?;
+    let shared = shared_paths(rt.alloc(), &entry)?;
+    for (first, second, same) in [
+        (b"a.h".as_slice(), b"b/c.h".as_slice(), true),
+        (b"a.h".as_slice(), b"b/d.h".as_slice(), false),
+        (b"b/c.h".as_slice(), b"a.h".as_slice(), false),
+    ] {
+        let found = is_same(rt.alloc(), &shared, first, second)?;
+        assert_eq!(rt; found, (same, same));
     }
-    let entry = Entry::new(alloc, b"a.o", b"cc -c a.c", 5, &named)?.copy()?;
-    let shared = PathList::of_shared_rows(alloc, entry.paths()?.into_rows(alloc)?)?;
-    assert!(rt; shared.is_same(&own(alloc, b"a.h", b"b/c.h")?));
-    assert!(rt; own(alloc, b"a.h", b"b/c.h")?.is_same(&shared));
-    assert!(rt; !shared.is_same(&own(alloc, b"a.h", b"b/d.h")?));
-    assert!(rt; !own(alloc, b"b/c.h", b"a.h")?.is_same(&shared));
     Ok(())
 }
 
@@ -334,25 +477,29 @@ impl Write for Narrow {
     }
 }
 
+/// Appends the entry of `ENTRY` to a writer. Returns what the writer took, and how the append ended.
+fn appended(
+    alloc: Global,
+    at_a_call: usize,
+    left: usize,
+) -> Result<(Vec<u8>, Result<(), WriteFault>), Fail> {
+    let entry = Entry::new(alloc, b"a", b"t", 7, &[])?;
+    let mut out = Counted::new(Narrow {
+        taken: Vec::new(alloc),
+        at_a_call,
+        left,
+    });
+    let done = append(&entry, &mut out);
+    Ok((out.into_writer().taken, done))
+}
+
 #[test]
 fn writers_that_take_little(rt: HostRuntime) -> Result<(), Fail> {
-    let entry = Entry::new(rt.alloc(), b"a", b"t", 7, &[])?;
-    let mut failing = Counted::new(Narrow {
-        taken: Vec::new(rt.alloc()),
-        at_a_call: 10,
-        left: 10,
-    });
-    assert_eq!(rt;
-        append(&entry, &mut failing),
-        Err(WriteFault { written: 10 })
-    );
-    assert_eq!(rt; failing.into_writer().taken.as_slice(), &ENTRY[..10]);
-    let mut slow = Counted::new(Narrow {
-        taken: Vec::new(rt.alloc()),
-        at_a_call: 1,
-        left: 24,
-    });
-    assert_eq!(rt; append(&entry, &mut slow), Ok(()));
-    assert_eq!(rt; slow.into_writer().taken.as_slice(), ENTRY.as_slice());
+    let (taken, done) = appended(rt.alloc(), 10, 10)?;
+    assert_eq!(rt; done, Err(WriteFault { written: 10 }));
+    assert_eq!(rt; taken.as_slice(), &ENTRY[..10]);
+    let (taken, done) = appended(rt.alloc(), 1, 24)?;
+    assert_eq!(rt; done, Ok(()));
+    assert_eq!(rt; taken.as_slice(), ENTRY.as_slice());
     Ok(())
 }

@@ -1,7 +1,7 @@
 //! Calls each public function of plan_verify on images, as another crate would.
 
 use plan_image::{
-    Edge, EdgeCode, Edges, Image, Instr, Kind, Parts, Pool, Slot, Sort, print_image, split,
+    Body, Edge, EdgeCode, Edges, Image, Instr, Kind, Parts, Pool, Slot, Sort, print_image, split,
 };
 use plan_text::{Counted, Items, Memory, RowList};
 use plan_verify::*;
@@ -10,51 +10,104 @@ use std::test::Fail;
 
 /// Creates an edge with label 0 and output 0.
 fn edge(alloc: Global, rank: u32, waits: &[u32], code: EdgeCode) -> Result<Edge, AllocError> {
+    let outputs = Vec::from_slice(alloc, [0].as_slice())?;
+    let waits = Vec::from_slice(alloc, waits)?;
     Ok(Edge {
         sort: Sort::Command,
         pool: None,
         rank,
         label: 0,
-        outputs: Items::new(Vec::from_slice(alloc, [0].as_slice())?),
-        waits: Items::new(Vec::from_slice(alloc, waits)?),
+        outputs: Items::new(outputs),
+        waits: Items::new(waits),
         code,
     })
 }
 
+/// Appends an edge with its own code.
+fn push_edge(
+    alloc: Global,
+    edges: &mut Edges,
+    rank: u32,
+    waits: &[u32],
+    code: &[Instr],
+) -> Result<(), AllocError> {
+    let own = EdgeCode::Own(Items::new(Vec::from_slice(alloc, code)?));
+    let edge = edge(alloc, rank, waits, own)?;
+    edges.push(alloc, &edge)
+}
+
+/// Sets text 0 to `x` and file 0 to `a`, and makes edge 0 a default.
+fn fill(alloc: Global, parts: &mut Parts, slots: &[Slot]) -> Result<(), AllocError> {
+    parts.texts.push(b"x")?;
+    parts.files.push(b"a")?;
+    parts.slots = Items::new(Vec::from_slice(alloc, slots)?);
+    parts.defaults = Items::new(Vec::from_slice(alloc, [0].as_slice())?);
+    Ok(())
+}
+
 /// Creates the tables of these edges. Text 0 is `x`, file 0 is `a`, and edge 0 is a default.
 fn parts_of(alloc: Global, slots: &[Slot], edges: Edges) -> Result<Parts, AllocError> {
-    let mut texts = RowList::new(alloc);
-    texts.push(b"x")?;
-    let mut files = RowList::new(alloc);
-    files.push(b"a")?;
-    Ok(Parts {
-        texts,
-        files,
+    let mut parts = Parts {
+        texts: RowList::new(alloc),
+        files: RowList::new(alloc),
         pools: Items::empty(alloc),
-        slots: Items::new(Vec::from_slice(alloc, slots)?),
+        slots: Items::empty(alloc),
         bodies: None,
         edges,
-        defaults: Items::new(Vec::from_slice(alloc, [0].as_slice())?),
-    })
+        defaults: Items::empty(alloc),
+    };
+    fill(alloc, &mut parts, slots)?;
+    Ok(parts)
 }
 
 /// Returns the verifier's verdict on tables.
 fn verdict_on(alloc: Global, parts: Parts) -> Result<u64, VerifyFault> {
-    let Ok(image) = Image::new(parts) else {
-        return Err(VerifyFault::Memory);
-    };
+    match Image::new(parts) {
+        Ok(image) => verdict_on_image(alloc, image),
+        Err((parts, _)) => {
+            drop(parts);
+            Err(VerifyFault::Memory)
+        }
+    }
+}
+
+/// Returns the verifier's verdict on an image.
+fn verdict_on_image(alloc: Global, image: Image) -> Result<u64, VerifyFault> {
     match verify(alloc, image) {
-        Ok(verified) => Ok(verified.budget()),
-        Err((_, fault)) => Err(fault),
+        Ok(verified) => {
+            let budget = verified.budget();
+            drop(verified);
+            Ok(budget)
+        }
+        Err((image, fault)) => {
+            drop(image);
+            Err(fault)
+        }
     }
 }
 
 /// Returns the verifier's verdict on the code of one edge in version 1.
 fn verdict(alloc: Global, code: &[Instr], slots: &[Slot]) -> Result<u64, VerifyFault> {
-    let own = EdgeCode::Own(Items::new(Vec::from_slice(alloc, code)?));
     let mut edges = Edges::new(alloc);
-    edges.push(alloc, &edge(alloc, 0, &[], own)?)?;
+    push_edge(alloc, &mut edges, 0, &[], code)?;
     verdict_on(alloc, parts_of(alloc, slots, edges)?)
+}
+
+/// Returns the tables of one edge with this body, in version 2.
+fn parts_of_body(
+    alloc: Global,
+    body: Body,
+    operands: Items<u32>,
+    slots: &[Slot],
+) -> Result<Parts, AllocError> {
+    let mut bodies = Vec::new(alloc);
+    bodies.push(body)?;
+    let edge = edge(alloc, 0, &[], EdgeCode::Shared(0, operands))?;
+    let mut edges = Edges::new(alloc);
+    edges.push(alloc, &edge)?;
+    let mut parts = parts_of(alloc, slots, edges)?;
+    parts.bodies = Some(Items::new(bodies));
+    Ok(parts)
 }
 
 /// Returns the verifier's verdict on the code as a body in version 2.
@@ -62,13 +115,7 @@ fn verdict_on_body(alloc: Global, code: &[Instr], slots: &[Slot]) -> Result<u64,
     let Ok((body, operands)) = split(alloc, code) else {
         return Err(VerifyFault::Memory);
     };
-    let mut bodies = Vec::new(alloc);
-    bodies.push(body)?;
-    let mut edges = Edges::new(alloc);
-    edges.push(alloc, &edge(alloc, 0, &[], EdgeCode::Shared(0, operands))?)?;
-    let mut parts = parts_of(alloc, slots, edges)?;
-    parts.bodies = Some(Items::new(bodies));
-    verdict_on(alloc, parts)
+    verdict_on(alloc, parts_of_body(alloc, body, operands, slots)?)
 }
 
 #[test]
@@ -229,10 +276,8 @@ fn verdict_on_two(alloc: Global, rank: u32, waits: &[u32]) -> Result<u64, Verify
     let store = [Instr::Zero, Instr::Store(0), Instr::End];
     let load = [Instr::Load(0), Instr::Drop, Instr::End];
     let mut edges = Edges::new(alloc);
-    let own = EdgeCode::Own(Items::new(Vec::from_slice(alloc, store.as_slice())?));
-    edges.push(alloc, &edge(alloc, 0, &[], own)?)?;
-    let own = EdgeCode::Own(Items::new(Vec::from_slice(alloc, load.as_slice())?));
-    edges.push(alloc, &edge(alloc, rank, waits, own)?)?;
+    push_edge(alloc, &mut edges, 0, &[], store.as_slice())?;
+    push_edge(alloc, &mut edges, rank, waits, load.as_slice())?;
     let slots = [Slot {
         owner: 0,
         kind: Kind::Stamp,
@@ -259,37 +304,59 @@ fn slots_of_waits(rt: HostRuntime) {
 
 /// Creates the tables of one edge with the code `End`.
 fn plain_parts(alloc: Global) -> Result<Parts, AllocError> {
-    let own = EdgeCode::Own(Items::new(Vec::from_slice(alloc, [Instr::End].as_slice())?));
     let mut edges = Edges::new(alloc);
-    edges.push(alloc, &edge(alloc, 0, &[], own)?)?;
+    push_edge(alloc, &mut edges, 0, &[], [Instr::End].as_slice())?;
     parts_of(alloc, &[], edges)
 }
 
-#[test]
-fn tables_outside(rt: HostRuntime) -> Result<(), Fail> {
-    let mut parts = plain_parts(rt.alloc())?;
-    parts.defaults = Items::new(Vec::from_slice(rt.alloc(), [1].as_slice())?);
-    assert_eq!(rt;
-        verdict_on(rt.alloc(), parts),
-        Err(VerifyFault::Refused(Refusal::BadWait, 0, 0))
-    );
-    let mut parts = plain_parts(rt.alloc())?;
-    parts.texts = RowList::new(rt.alloc());
-    assert_eq!(rt;
-        verdict_on(rt.alloc(), parts),
-        Err(VerifyFault::Refused(Refusal::BadText, 0, 0))
-    );
-    let mut parts = plain_parts(rt.alloc())?;
-    parts.files = RowList::new(rt.alloc());
-    assert_eq!(rt;
-        verdict_on(rt.alloc(), parts),
-        Err(VerifyFault::Refused(Refusal::BadFile, 0, 0))
-    );
-    Ok(())
+/// Returns the verifier's verdict on the tables of one edge with these defaults.
+fn verdict_with_defaults(alloc: Global, defaults: &[u32]) -> Result<u64, VerifyFault> {
+    let defaults = Vec::from_slice(alloc, defaults)?;
+    let mut parts = plain_parts(alloc)?;
+    parts.defaults = Items::new(defaults);
+    verdict_on(alloc, parts)
 }
 
-/// Creates the tables of three edges that take a job token of pool 0, with these pools.
-fn pooled_parts(alloc: Global, pools: Vec<Pool>) -> Result<Parts, AllocError> {
+/// Returns the verifier's verdict on the tables of one edge without texts.
+fn verdict_without_texts(alloc: Global) -> Result<u64, VerifyFault> {
+    let mut parts = plain_parts(alloc)?;
+    parts.texts = RowList::new(alloc);
+    verdict_on(alloc, parts)
+}
+
+/// Returns the verifier's verdict on the tables of one edge without files.
+fn verdict_without_files(alloc: Global) -> Result<u64, VerifyFault> {
+    let mut parts = plain_parts(alloc)?;
+    parts.files = RowList::new(alloc);
+    verdict_on(alloc, parts)
+}
+
+#[test]
+fn tables_outside(rt: HostRuntime) {
+    assert_eq!(rt;
+        verdict_with_defaults(rt.alloc(), [1].as_slice()),
+        Err(VerifyFault::Refused(Refusal::BadWait, 0, 0))
+    );
+    assert_eq!(rt;
+        verdict_without_texts(rt.alloc()),
+        Err(VerifyFault::Refused(Refusal::BadText, 0, 0))
+    );
+    assert_eq!(rt;
+        verdict_without_files(rt.alloc()),
+        Err(VerifyFault::Refused(Refusal::BadFile, 0, 0))
+    );
+}
+
+/// Appends an edge of pool 0 with its own code.
+fn push_pooled(alloc: Global, edges: &mut Edges, code: &[Instr]) -> Result<(), AllocError> {
+    let own = EdgeCode::Own(Items::new(Vec::from_slice(alloc, code)?));
+    let mut edge = edge(alloc, 0, &[], own)?;
+    edge.pool = Some(0);
+    edges.push(alloc, &edge)
+}
+
+/// Appends three edges that take a job token of pool 0.
+fn push_three(alloc: Global, edges: &mut Edges) -> Result<(), AllocError> {
     let code = [
         Instr::Take,
         Instr::Text(0),
@@ -297,30 +364,37 @@ fn pooled_parts(alloc: Global, pools: Vec<Pool>) -> Result<Parts, AllocError> {
         Instr::Release,
         Instr::End,
     ];
-    let mut edges = Edges::new(alloc);
     for _ in 0..3 {
-        let own = EdgeCode::Own(Items::new(Vec::from_slice(alloc, code.as_slice())?));
-        let mut one = edge(alloc, 0, &[], own)?;
-        one.pool = Some(0);
-        edges.push(alloc, &one)?;
+        push_pooled(alloc, edges, code.as_slice())?;
     }
-    let mut parts = parts_of(alloc, &[], edges)?;
+    Ok(())
+}
+
+/// Creates the tables of three edges that take a job token of pool 0. There are no pools.
+fn pooled_parts(alloc: Global) -> Result<Parts, AllocError> {
+    let mut edges = Edges::new(alloc);
+    push_three(alloc, &mut edges)?;
+    parts_of(alloc, &[], edges)
+}
+
+/// Creates the tables of three edges of pool 0, whose depth is 1.
+fn parts_of_pool(alloc: Global) -> Result<Parts, AllocError> {
+    let name = Vec::from_slice(alloc, b"p")?;
+    let mut pools = Vec::new(alloc);
+    pools.push(Pool {
+        name: Items::new(name),
+        depth: 1,
+    })?;
+    let mut parts = pooled_parts(alloc)?;
     parts.pools = Items::new(pools);
     Ok(parts)
 }
 
 #[test]
 fn pool_of_one(rt: HostRuntime) -> Result<(), Fail> {
-    let mut pools = Vec::new(rt.alloc());
-    pools.push(Pool {
-        name: Items::new(Vec::from_slice(rt.alloc(), b"p")?),
-        depth: 1,
-    })?;
-    assert_eq!(rt;
-        verdict_on(rt.alloc(), pooled_parts(rt.alloc(), pools)?),
-        Ok(21)
-    );
-    let parts = pooled_parts(rt.alloc(), Vec::new(rt.alloc()))?;
+    let parts = parts_of_pool(rt.alloc())?;
+    assert_eq!(rt; verdict_on(rt.alloc(), parts), Ok(21));
+    let parts = pooled_parts(rt.alloc())?;
     assert_eq!(rt;
         verdict_on(rt.alloc(), parts),
         Err(VerifyFault::Refused(Refusal::BadPool, 0, 0))
@@ -330,12 +404,28 @@ fn pool_of_one(rt: HostRuntime) -> Result<(), Fail> {
 
 /// Returns the bytes of the image that `verify` hands back, accepted or refused.
 fn bytes_back(alloc: Global, parts: Parts) -> Result<Vec<u8>, Memory> {
-    let Ok(image) = Image::new(parts) else {
-        return Err(Memory);
-    };
+    match Image::new(parts) {
+        Ok(image) => verified_bytes(alloc, image),
+        Err((parts, _)) => {
+            drop(parts);
+            Err(Memory)
+        }
+    }
+}
+
+/// Verifies an image. Returns its bytes, accepted or refused.
+fn verified_bytes(alloc: Global, image: Image) -> Result<Vec<u8>, Memory> {
     match verify(alloc, image) {
-        Ok(verified) => printed(alloc, verified.image()),
-        Err((image, _)) => printed(alloc, &image),
+        Ok(verified) => {
+            let bytes = printed(alloc, verified.image());
+            drop(verified);
+            bytes
+        }
+        Err((image, _)) => {
+            let bytes = printed(alloc, &image);
+            drop(image);
+            bytes
+        }
     }
 }
 

@@ -7,6 +7,7 @@ use plan_status::status_lines;
 use plan_text::RowList;
 use plan_verify::{Cause, PathList, Verified, Words, verify};
 use std::alloc::{AllocError, Global};
+use std::process::Abort;
 use std::sync::Wait;
 use std::sync::atomic::{AtomicU64, Ordering};
 use std::test::*;
@@ -33,7 +34,10 @@ fn chain(alloc: Global) -> Option<Verified> {
     };
     match verify(alloc, image) {
         Ok(verified) => Some(verified),
-        Err(_) => None,
+        Err((image, _)) => {
+            drop(image);
+            None
+        }
     }
 }
 
@@ -195,6 +199,38 @@ fn calls_behind(failing: u64) -> u64 {
     }
 }
 
+/// Checks a run of the chain with at most `jobs` lanes, in which the call of this number fails.
+fn fails_once<R: Threads + Wait + Sync + Abort>(
+    rt: &R,
+    alloc: Global,
+    image: &Verified,
+    jobs: u8,
+    failing: u64,
+) {
+    let world = Failing {
+        alloc,
+        failing,
+        calls: AtomicU64::new(0),
+    };
+    let Some(report) = ran(rt, alloc, image, jobs, &world) else {
+        panic!(rt; "no report");
+    };
+    let (mid, out) = outcomes_behind(failing);
+    assert!(rt; came_out(&report, mid, out));
+    assert!(rt; tells(alloc, image, &report, lines_behind(failing)));
+    drop(report);
+    assert_eq!(rt; world.calls.load(Ordering::SeqCst), calls_behind(failing));
+}
+
+/// Checks runs of the chain in which each of the eight calls fails, and then none.
+fn fails_each<R: Threads + Wait + Sync + Abort>(rt: &R, alloc: Global, image: &Verified) {
+    for jobs in [1u8, 4] {
+        for failing in 0..10u64 {
+            fails_once(rt, alloc, image, jobs, failing);
+        }
+    }
+}
+
 /// A failed call ends its edge, and no call is repeated. The test fails each of the eight calls and then none, with one
 /// lane and with four.
 #[test]
@@ -202,21 +238,7 @@ fn each_call_fails_once(rt: HostRuntime) -> Result<(), Fail> {
     let Some(image) = chain(rt.alloc()) else {
         panic!(&rt; "no image");
     };
-    for jobs in [1u8, 4] {
-        for failing in 0..10u64 {
-            let world = Failing {
-                alloc: rt.alloc(),
-                failing,
-                calls: AtomicU64::new(0),
-            };
-            let Some(report) = ran(&rt, rt.alloc(), &image, jobs, &world) else {
-                panic!(&rt; "no report");
-            };
-            let (mid, out) = outcomes_behind(failing);
-            assert!(rt; came_out(&report, mid, out));
-            assert!(rt; tells(rt.alloc(), &image, &report, lines_behind(failing)));
-            assert_eq!(rt; world.calls.load(Ordering::SeqCst), calls_behind(failing));
-        }
-    }
+    fails_each(&rt, rt.alloc(), &image);
+    drop(image);
     Ok(())
 }

@@ -27,30 +27,44 @@ const SWEEPS: [Instr; 9] = [
 
 /// Returns an edge with rank n and output file n, which sweeps the paths of a depfile.
 fn edge(alloc: Global, n: u32) -> Result<Edge, AllocError> {
+    let outputs = Vec::from_slice(alloc, [n].as_slice())?;
+    let code = Vec::from_slice(alloc, SWEEPS.as_slice())?;
     Ok(Edge {
         sort: Sort::Command,
         pool: None,
         rank: n,
         label: 0,
-        outputs: Items::new(Vec::from_slice(alloc, [n].as_slice())?),
+        outputs: Items::new(outputs),
         waits: Items::empty(alloc),
-        code: EdgeCode::Own(Items::new(Vec::from_slice(alloc, SWEEPS.as_slice())?)),
+        code: EdgeCode::Own(Items::new(code)),
     })
 }
 
-/// Returns the verified image of `count` edges that sweep.
-fn image_of(alloc: Global, count: u32) -> Result<Verified, Refused> {
+/// Appends `count` edges that sweep, a file for each of them, and their numbers.
+fn add_edges(
+    alloc: Global,
+    edges: &mut Edges,
+    files: &mut RowList<u8>,
+    numbers: &mut Vec<u32>,
+    count: u32,
+) -> Result<(), AllocError> {
+    for n in 0..count {
+        files.push([u8::try_from(n).unwrap_or(0).saturating_add(1)].as_slice())?;
+        edges.push(alloc, &edge(alloc, n)?)?;
+        numbers.push(n)?;
+    }
+    Ok(())
+}
+
+/// Returns the tables of `count` edges that sweep. All of them are built by default.
+fn parts_of(alloc: Global, count: u32) -> Result<Parts, AllocError> {
     let mut texts = RowList::new(alloc);
     texts.push(b"x")?;
     let mut files = RowList::new(alloc);
     let mut edges = Edges::new(alloc);
     let mut defaults = Vec::new(alloc);
-    for n in 0..count {
-        files.push([u8::try_from(n).unwrap_or(0).saturating_add(1)].as_slice())?;
-        edges.push(alloc, &edge(alloc, n)?)?;
-        defaults.push(n)?;
-    }
-    let parts = Parts {
+    add_edges(alloc, &mut edges, &mut files, &mut defaults, count)?;
+    Ok(Parts {
         texts,
         files,
         pools: Items::empty(alloc),
@@ -58,11 +72,29 @@ fn image_of(alloc: Global, count: u32) -> Result<Verified, Refused> {
         bodies: None,
         edges,
         defaults: Items::new(defaults),
-    };
-    let Ok(image) = Image::new(parts) else {
-        return Err(Refused::BadTarget);
-    };
-    verify(alloc, image).map_err(|_| Refused::BadTarget)
+    })
+}
+
+/// Returns the image of these tables.
+fn unverified(parts: Parts) -> Result<Image, Refused> {
+    match Image::new(parts) {
+        Ok(image) => Ok(image),
+        Err((parts, _)) => {
+            drop(parts);
+            Err(Refused::BadTarget)
+        }
+    }
+}
+
+/// Returns the verified image of `count` edges that sweep.
+fn image_of(alloc: Global, count: u32) -> Result<Verified, Refused> {
+    match verify(alloc, unverified(parts_of(alloc, count)?)?) {
+        Ok(verified) => Ok(verified),
+        Err((image, _)) => {
+            drop(image);
+            Err(Refused::BadTarget)
+        }
+    }
 }
 
 /// The paths that are answered ahead.
@@ -218,11 +250,17 @@ fn ran<R: Threads + Wait + Sync, W: World + Send + Sync>(
     jobs: u8,
     world: &W,
 ) -> Result<Report, Refused> {
-    let image = image_of(alloc, edges)?;
     let Some(options) = Options::new(jobs, 0) else {
         return Err(Refused::BadTarget);
     };
-    run_lanes(rt, alloc, &image, options, &[], world).map_err(|_| Refused::NotEnabled)
+    let image = image_of(alloc, edges)?;
+    match run_lanes(rt, alloc, &image, options, &[], world) {
+        Ok(report) => Ok(report),
+        Err(fault) => {
+            drop(fault);
+            Err(Refused::NotEnabled)
+        }
+    }
 }
 
 /// Checks whether all edges of a run have this outcome.
@@ -238,20 +276,43 @@ fn came_out(report: &Report, edges: u32, outcome: Outcome) -> bool {
 /// The numbers of paths that a depfile has in these tests. A row has 64 paths.
 const COUNTS: [usize; 9] = [1, 2, 3, 63, 64, 65, 66, 128, 200];
 
+/// Runs 30 edges in a world of files. Checks whether the journal isn't kept and all edges are clean. Returns the number
+/// of events, or `None` if not.
+fn swept<R: Threads + Wait + Sync>(
+    rt: &R,
+    alloc: Global,
+    jobs: u8,
+    world: &Files,
+) -> Result<Option<usize>, Refused> {
+    let report = ran(rt, alloc, 30, jobs, world)?;
+    let clean = report.kept.is_none() & came_out(&report, 30, Outcome::Clean);
+    let events = report.journal.len();
+    drop(report);
+    Ok(if clean { Some(events) } else { None })
+}
+
+/// Runs 30 edges whose depfile has this many paths. Returns the number of events if all edges are clean, and whether
+/// each path was asked for once for each edge.
+fn sweeps_once<R: Threads + Wait + Sync>(
+    rt: &R,
+    alloc: Global,
+    paths: usize,
+    ahead: Ahead,
+    jobs: u8,
+) -> Result<(Option<usize>, bool), Refused> {
+    let world = Files::new(alloc, paths, ahead, usize::MAX)?;
+    let events = swept(rt, alloc, jobs, &world)?;
+    Ok((events, world.is_asked(paths, 30)))
+}
+
 /// Each path of each edge is asked for once, whatever is answered ahead, by one lane and by four.
 #[test]
 fn each_path_of_each_edge(rt: HostRuntime) -> Result<(), Fail> {
     for ahead in [Ahead::None, Ahead::All, Ahead::Most] {
         for paths in COUNTS {
             for jobs in [1u8, 4] {
-                let world = Files::new(rt.alloc(), paths, ahead, usize::MAX)?;
-                let Ok(report) = ran(&rt, rt.alloc(), 30, jobs, &world) else {
-                    panic!(&rt; "no report");
-                };
-                assert!(rt; report.kept.is_none());
-                assert!(rt; came_out(&report, 30, Outcome::Clean));
-                assert!(rt; world.is_asked(paths, 30));
-                assert_eq!(rt; report.journal.len(), (2 * paths + 11) * 30);
+                let found = sweeps_once(&rt, rt.alloc(), paths, ahead, jobs);
+                assert_eq!(rt; found, Ok((Some((2 * paths + 11) * 30), true)));
             }
         }
     }
@@ -270,13 +331,8 @@ fn plain(event: &Event) -> u64 {
     }
 }
 
-/// Runs one edge, and returns its journal with each event as a number. The journal is kept.
-fn told<R: Threads + Wait + Sync>(
-    rt: &R,
-    alloc: Global,
-    world: &Files,
-) -> Result<Vec<u64>, Refused> {
-    let report = ran(rt, alloc, 1, 1, &Journaled::new(world))?;
+/// Returns the events of a run whose journal is kept, each as a number.
+fn plain_events(alloc: Global, report: &Report) -> Result<Vec<u64>, Refused> {
     let Some(journal) = &report.kept else {
         return Err(Refused::NotEnabled);
     };
@@ -294,24 +350,71 @@ fn told<R: Threads + Wait + Sync>(
     Ok(numbers)
 }
 
+/// Runs one edge, and returns its journal with each event as a number. The journal is kept.
+fn told<R: Threads + Wait + Sync>(
+    rt: &R,
+    alloc: Global,
+    world: &Files,
+) -> Result<Vec<u64>, Refused> {
+    let report = ran(rt, alloc, 1, 1, &Journaled::new(world))?;
+    plain_events(alloc, &report)
+}
+
+/// Returns the journal of one edge whose depfile has this many paths, each event as a number. Path `fault` has no
+/// stamp.
+fn told_of<R: Threads + Wait + Sync>(
+    rt: &R,
+    alloc: Global,
+    paths: usize,
+    ahead: Ahead,
+    fault: usize,
+) -> Result<Vec<u64>, Refused> {
+    let world = Files::new(alloc, paths, ahead, fault)?;
+    told(rt, alloc, &world)
+}
+
+/// Checks whether the journal of an edge is the same whether its paths are answered ahead or one by one.
+fn tells_the_same<R: Threads + Wait + Sync>(
+    rt: &R,
+    alloc: Global,
+    paths: usize,
+    ahead: Ahead,
+    fault: usize,
+) -> Result<bool, Refused> {
+    let single = told_of(rt, alloc, paths, Ahead::None, fault)?;
+    let numbers = told_of(rt, alloc, paths, ahead, fault)?;
+    Ok(numbers.as_slice() == single.as_slice())
+}
+
 /// The journal of an edge is the same whether its paths are answered ahead or one by one.
 #[test]
 fn rows_and_single_questions(rt: HostRuntime) -> Result<(), Fail> {
-    let alloc = rt.alloc();
     for paths in COUNTS {
         for fault in [usize::MAX, 0, 1, 63, 64, 65] {
-            let Ok(single) = told(&rt, alloc, &Files::new(alloc, paths, Ahead::None, fault)?) else {
-                panic!(&rt; "no report");
-            };
             for ahead in [Ahead::All, Ahead::Most] {
-                let Ok(numbers) = told(&rt, alloc, &Files::new(alloc, paths, ahead, fault)?) else {
-                    panic!(&rt; "no report");
-                };
-                assert_eq!(rt; numbers.as_slice(), single.as_slice());
+                assert_eq!(rt;
+                    tells_the_same(&rt, rt.alloc(), paths, ahead, fault),
+                    Ok(true)
+                );
             }
         }
     }
     Ok(())
+}
+
+/// Runs 8 edges whose depfile has 70 paths, of which path `fault` has no stamp. Returns whether all edges failed for
+/// it, and whether each path up to it was asked for once for each edge, and no later one.
+fn fails_at<R: Threads + Wait + Sync>(
+    rt: &R,
+    alloc: Global,
+    ahead: Ahead,
+    fault: usize,
+) -> Result<(bool, bool), Refused> {
+    let world = Files::new(alloc, 70, ahead, fault)?;
+    let report = ran(rt, alloc, 8, 2, &world)?;
+    let failed = came_out(&report, 8, Outcome::Failed(Cause::StatFault));
+    drop(report);
+    Ok((failed, world.is_asked(fault.saturating_add(1), 8)))
 }
 
 /// A path without a stamp fails its edge, and no later path is asked for.
@@ -319,12 +422,7 @@ fn rows_and_single_questions(rt: HostRuntime) -> Result<(), Fail> {
 fn path_without_a_stamp(rt: HostRuntime) -> Result<(), Fail> {
     for ahead in [Ahead::None, Ahead::Most] {
         for fault in [0usize, 1, 63, 64, 65] {
-            let world = Files::new(rt.alloc(), 70, ahead, fault)?;
-            let Ok(report) = ran(&rt, rt.alloc(), 8, 2, &world) else {
-                panic!(&rt; "no report");
-            };
-            assert!(rt; came_out(&report, 8, Outcome::Failed(Cause::StatFault)));
-            assert!(rt; world.is_asked(fault.saturating_add(1), 8));
+            assert_eq!(rt; fails_at(&rt, rt.alloc(), ahead, fault), Ok((true, true)));
         }
     }
     Ok(())

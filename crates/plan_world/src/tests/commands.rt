@@ -1,0 +1,141 @@
+//! Commands that are started by the shell.
+
+use super::*;
+use crate::Printed;
+use std::io::{self, ErrorKind};
+use std::process::{Command, ExitStatus};
+
+/// Checks the replies, in words, to commands with these outputs. Each command is said to need the console or not.
+fn starts_are<R: Files + Print + Eprint + Wait + AllocGlobal, S: Shells>(
+    rt: &impl Abort,
+    alloc: Global,
+    world: &RealWorld<R, S>,
+    outputs: &RowList<u8>,
+    cases: &[(&[u8], bool, &str)],
+) -> Result<(), Fail>
+where
+    R::File: Read + Write + Seek + OpenFile + SharedFile + Drop,
+{
+    for (command, console, reply) in cases {
+        start_is(rt, alloc, world, *command, *console, outputs, *reply)?;
+    }
+    Ok(())
+}
+
+/// A console command writes to where this program's own standard output goes, and another one doesn't.
+#[test]
+fn console_commands(rt: HostRuntime) -> Result<(), Fail> {
+    let folder = folder(&rt, "console_commands")?;
+    let outputs = rows(rt.alloc(), &[b"out"])?;
+    let same = b"test \"$(readlink /proc/$$/fd/1)\" = \"$(readlink /proc/$PPID/fd/1)\"".as_slice();
+    let cases = [
+        (same, true, "exit 0"),
+        (same, false, "exit 1"),
+        (b"exit 3".as_slice(), true, "exit 3"),
+        (b"kill -9 $$".as_slice(), true, "signal"),
+    ];
+    let world = world_in(&rt, folder.as_str())?;
+    starts_are(&rt, rt.alloc(), &world, &outputs, cases.as_slice())?;
+    drop(world);
+    remove(&rt, folder);
+    Ok(())
+}
+
+/// Checks that a command isn't started if a folder of an output can't be created, or if there is no output.
+fn needs_folders<R: Files + Print + Eprint + Wait + AllocGlobal, S: Shells>(
+    rt: &impl Abort,
+    alloc: Global,
+    world: &RealWorld<R, S>,
+    file: &[u8],
+    below: &[u8],
+) -> Result<(), Fail>
+where
+    R::File: Read + Write + Seek + OpenFile + SharedFile + Drop,
+{
+    let outputs = rows(alloc, &[below])?;
+    start_is(rt, alloc, world, b"true", false, &outputs, "not started")?;
+    let outputs = rows(alloc, &[file, b"\xff/out"])?;
+    start_is(rt, alloc, world, b"true", false, &outputs, "not started")?;
+    let outputs = rows(alloc, &[])?;
+    start_is(rt, alloc, world, b"true", false, &outputs, "not started")
+}
+
+#[test]
+fn commands(rt: HostRuntime) -> Result<(), Fail> {
+    let folder = folder(&rt, "commands")?;
+    let deep = format!(in rt.alloc(); "{folder}/one/two/out")?;
+    let below = format!(in rt.alloc(); "{deep}/below")?;
+    let outputs = rows(rt.alloc(), &[deep.as_bytes()])?;
+    let write = format!(in rt.alloc(); "cat; pwd > {deep}; exit 3")?;
+    let cases = [
+        (b"kill -9 $$".as_slice(), false, "signal"),
+        (b"-x".as_slice(), false, "exit 127"),
+        (b"exit 255".as_slice(), false, "exit 255"),
+        (b"true \xff".as_slice(), false, "not started"),
+        (b"true \0".as_slice(), false, "not started"),
+    ];
+    let world = world_in(&rt, folder.as_str())?;
+    start_is(
+        &rt,
+        rt.alloc(),
+        &world,
+        write.as_bytes(),
+        false,
+        &outputs,
+        "exit 3",
+    )?;
+    starts_are(&rt, rt.alloc(), &world, &outputs, cases.as_slice())?;
+    has_stamp(&rt, rt.alloc(), &world, deep.as_bytes())?;
+    needs_folders(&rt, rt.alloc(), &world, deep.as_bytes(), below.as_bytes())?;
+    drop(world);
+    remove(&rt, folder);
+    Ok(())
+}
+
+/// Shells that can't be started.
+#[derive(Drop)]
+struct NoShells;
+
+impl Shells for NoShells {
+    ghost ended = { λ _ _. ⊥ };
+
+    fn output(&self, _shell: Command, _edge: &[u8]) -> io::Result<Printed> {
+        Err(io::Error::from(ErrorKind::NotFound))
+    }
+
+    fn status(&self, _shell: Command) -> io::Result<ExitStatus> {
+        Err(io::Error::from(ErrorKind::NotFound))
+    }
+}
+
+/// A command ends only if its shell did.
+#[test]
+fn no_shells(rt: HostRuntime) -> Result<(), Fail> {
+    let folder = folder(&rt, "no_shells")?;
+    let record = format!(in rt.alloc(); "{folder}/record")?;
+    let outputs = rows(rt.alloc(), &[b"out"])?;
+    let cases = [
+        (b"true".as_slice(), false, "not started"),
+        (b"true".as_slice(), true, "not started"),
+    ];
+    let world = RealWorld::open(rt.clone()?, NoShells, record.as_str())?;
+    starts_are(&rt, rt.alloc(), &world, &outputs, cases.as_slice())?;
+    drop(world);
+    remove(&rt, folder);
+    Ok(())
+}
+
+/// What a command writes to both of its streams stays in its order.
+#[test]
+fn both_streams_in_order(rt: HostRuntime) -> Result<(), Fail> {
+    let alloc = rt.alloc();
+    let mut shell = Command::new(alloc, "/bin/sh")?;
+    shell
+        .arg("-c")?
+        .arg("echo a; echo b >&2; echo c; echo d >&2; exit 7")?;
+    let shells = SystemShells::new(rt.clone()?);
+    let Printed { status, text } = shells.output(shell, b"out")?;
+    assert_eq!(rt; status.code(), Some(7));
+    assert_eq!(rt; text.as_slice(), b"a\nb\nc\nd\n".as_slice());
+    Ok(())
+}
