@@ -22,7 +22,7 @@ help:
 	@echo "  make rows      run the rows, or some of them (NAMES='tab_* scopes/*'); half a minute"
 	@echo "  make tests     run all tests of the program; 4 to 6 minutes"
 	@echo "  make check     run the whole gate: proofs, must-fail edits, tests"
-	@echo "  make edits     try the must-fail edits, also those that the gate leaves out (CRATES=plan_text); ten seconds each"
+	@echo "  make edits     try the must-fail edits, also those that the gate leaves out (CRATES=plan_text); a minute each"
 	@echo "  make calls     refuse each allocation of the lower crates' calls, and run damaged images; two minutes"
 	@echo "  make real      compare commands and builds of CMake's and Meson's trees with ninja's; more than an hour"
 	@echo "  make bench     time the program, ninja and make; some minutes"

@@ -2,12 +2,13 @@
 """Tries must-fail edits: wrong bodies that the prover has to refuse.
 
 Each edit is made in a copy of its crate, and the functions that it changes are checked over the proved crates below,
-those that `rt ci` left in crates/*/out; so an edit takes some ten seconds, where `rt must-fail` checks a crate whole
-before the first one. An edit is refused if the prover says that a goal is not proved. If it stops in a written answer
+those that `rt ci` left in crates/*/out; so most edits take ten seconds to two minutes, and `rt must-fail` would check a
+crate whole before the first one. The crates have to be proved: then a goal that isn't proved is the edit's fault. An
+edit is refused if the prover says that a goal is not proved. If it stops in a written answer
 instead, because the answer names a value that the edit changed, the edit has to say so in a line `refused-in-answer:`.
-A line `check: module::function` names another function that is to be checked than the changed one. If a
-definition of specs/ is changed and there is no such line, the whole crate is checked. With --gate only the
-edits of tests/must_fail are tried, and else those of tests/edits too. With --fit none is tried: each text that an edit
+A line `check: module::function` names the function to check if it isn't the changed one. If a definition of specs/ is
+changed and there is no such line, the whole crate is checked. With --gate only the edits of tests/must_fail are tried,
+and otherwise those of tests/edits too. With --fit none is tried: each text that an edit
 replaces must stand once in its file, also of those that `rt ci` and tools/wrong_bodies.py try. The last line is
 `N passed, M failed`.
 """
@@ -20,7 +21,6 @@ import pathlib
 import re
 import shutil
 import subprocess
-import sys
 import tempfile
 import time
 from collections.abc import Iterator, Sequence
@@ -208,6 +208,8 @@ def main() -> None:
     with tempfile.TemporaryDirectory() as name, concurrent.futures.ThreadPoolExecutor(asked.jobs) as lanes:
         folder = pathlib.Path(name)
         proved = asked.proved or libraries(folder)
+        if not any(proved.glob("*.rlib")):
+            parser.error(f"no proved libraries in {asked.proved or 'crates/*/out'}: run rt ci first")
         todo = sorted((own for own in edits if own), key=len, reverse=True)
         refused = [passed for own in lanes.map(lambda own: try_all(own, proved, folder), todo) for passed in own]
     programs.end(sum(refused), len(refused) - sum(refused))
