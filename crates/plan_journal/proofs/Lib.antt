@@ -1,3 +1,4 @@
 mod ColumnLemmas
 mod Rows
 mod RowLemmas
+mod ReplyLemmas

@@ -16,7 +16,7 @@ abbrev pub wholes_in : Sort → ℕ
 wholes_in sort.Whole = 1
 wholes_in _ = 0
 
--- so many of all sorts together
+-- the total of this number over all sorts
 abbrev pub total : (Sort → ℕ) → List Sort → ℕ
 total kept [] = 0
 total kept (s ∷ ss) = kept s + total kept ss

@@ -9,6 +9,7 @@ ghost use Rattle.plan_machine.specs.Sweeping.{row_events, sweep_events};
 ghost use Rattle.plan_journal.specs.Columns.{event_of, stamps_in, wholes_in};
 ghost use Rattle.plan_journal.specs.Drafts.{HasRoom, HasRowRoom};
 
+use crate::events::Events;
 use crate::kept_journal::KeptJournal;
 use crate::sort::Sort;
 use plan_machine::{Event, Reply};
@@ -58,6 +59,13 @@ impl ColumnBuilder {
         self.sorts.len()
     }
 
+    /// Returns the events, to be read from the first on.
+    pub(crate) fn events(&self) -> Events<'_>
+        ensures { result ≡ self.now.events }
+    {
+        Events::of(&self.sorts, &self.edges, &self.stamps, &self.wholes)
+    }
+
     /// Returns the journal of these events.
     pub(crate) fn finish(self) -> KeptJournal
         ensures { result ≡ self.events }
@@ -71,8 +79,7 @@ impl ColumnBuilder {
         KeptJournal::of(sorts, edges, stamps, wholes)
     }
 
-    /// Makes room for `count` events, of which one may bring a stamp. The others are known by their sort and their
-    /// edge.
+    /// Makes room for `count` events. One of them may bring a stamp. The others are known by their sort and their edge.
     ///
     /// # Errors
     /// `AllocError` if memory runs out. Then no event is lost.

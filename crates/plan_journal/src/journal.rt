@@ -26,7 +26,7 @@ impl Model for Journal {
 }
 
 impl Journal {
-    /// Returns the journal of these events, of which there are so many.
+    /// Returns the journal of these events. There are `count` events.
     pub(crate) fn of(count: usize, history: History<Event>) -> Journal
         requires { count ≡ length history.items }
         ensures { result ≡ history.items }

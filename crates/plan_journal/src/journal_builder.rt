@@ -1,14 +1,16 @@
 //! Journals that are being built.
 
-ghost use Rattle.std.specs.Prelude.{◌≡◌, ◌≤◌, ◌++◌, ◌∷◌, ◌+◌, ◌-◌, ℕ, [], None, OnErr, OnOk, Some, if◌then◌else◌, length, take};
+ghost use Rattle.std.specs.Prelude.{◌≡◌, ◌≤◌, ◌++◌, ◌∷◌, ◌+◌, ◌-◌, ℕ, [], IfOk, IfSome, None, OnErr, OnOk, Some, if◌then◌else◌, is_some, length, take};
 ghost use Rattle.plan_machine.specs.declared.event.Event.TheVariants.{Reply as Hear};
 ghost use Rattle.plan_machine.specs.declared.event.Event.TheVariants as happens;
 ghost use Rattle.plan_machine.specs.declared.event.reply.Reply.TheVariants.{Stamp};
+ghost use Rattle.plan_machine.specs.Agreement as agreement;
 ghost use Rattle.plan_machine.specs.LocalRuns.{steps_of};
 ghost use Rattle.plan_machine.specs.Sweeping.{row_events, sweep_events};
 ghost use Rattle.plan_journal.specs.Drafts.{HasRoom, HasRowRoom};
 
 use crate::column_builder::ColumnBuilder;
+use crate::edge_replies::EdgeReplies;
 use crate::journal::Journal;
 use crate::keeping::Keeping;
 use crate::kept_journal::KeptJournal;
@@ -33,19 +35,21 @@ enum Form {
 pub struct JournalBuilder<K: Keeping> {
     alloc: Global,
     form: Form,
+    replies: EdgeReplies,
     history: History<Event>,
     keeping: PhantomData<K>,
 }
 
 impl<K: Keeping> Model for JournalBuilder<K> {
     ghost use Rattle.plan_journal.specs.Drafts.{Draft};
+    ghost use Rattle.plan_journal.specs.EdgeReplies.{AreKnown};
     ghost use Rattle.plan_journal.specs.Forms.{IsForm, draft};
 
     ghost Value = { Draft };
 
     ghost view = { λ j. draft j.form j.history.items };
 
-    ghost invariant = { λ j. IsForm K.keeps j.form j.history.items };
+    ghost invariant = { λ j. IsForm K.keeps j.form j.history.items × AreKnown j.replies j.history.items };
 }
 
 impl<K: Keeping> JournalBuilder<K> {
@@ -58,9 +62,15 @@ impl<K: Keeping> JournalBuilder<K> {
         } else {
             Form::Counted(0)
         };
+        let replies = if K::observes() {
+            EdgeReplies::Known(Vec::new(alloc))
+        } else {
+            EdgeReplies::Unknown
+        };
         JournalBuilder {
             alloc,
             form,
+            replies,
             history: History::new(),
             keeping: PhantomData,
         }
@@ -73,6 +83,21 @@ impl<K: Keeping> JournalBuilder<K> {
         match &self.form {
             Form::Kept(columns) => columns.len(),
             Form::Counted(count) => *count,
+        }
+    }
+
+    /// Returns the replies that an edge has received, in their order. Returns None if `K` doesn't keep them.
+    ///
+    /// # Errors
+    /// Memory ran out, now or when a reply was appended, or an event was removed.
+    pub fn replies_to(&self, edge: u32) -> Result<Option<Vec<Reply>>, AllocError>
+        ensures kept { IfOk result (λ o. is_some o ≡ K.observes) }
+        ensures replies { IfOk result (λ o. IfSome o (λ v. v.items ≡ agreement.replies_to edge self.now.events)) }
+    {
+        if K::observes() {
+            Ok(Some(self.replies.of_edge(self.alloc, edge)?))
+        } else {
+            Ok(None)
         }
     }
 
@@ -91,8 +116,7 @@ impl<K: Keeping> JournalBuilder<K> {
         }
     }
 
-    /// Makes room for `count` events, of which one may bring a stamp. The others are known by their sort and their
-    /// edge.
+    /// Makes room for `count` events. One of them may bring a stamp. The others are known by their sort and their edge.
     ///
     /// # Errors
     /// Memory ran out. Then no event is lost.
@@ -141,10 +165,12 @@ impl<K: Keeping> JournalBuilder<K> {
             Form::Kept(columns) => columns.push_step(edge),
             Form::Counted(count) => *count += 1,
         }
-        self.history = self.history.and(&Event::Step(edge));
+        let step = Event::Step(edge);
+        self.replies.push_event(self.alloc, &step);
+        self.history = self.history.and(&step);
     }
 
-    /// Appends so many steps of an edge. It takes no memory.
+    /// Appends `count` steps of an edge. It takes no memory.
     pub fn push_steps(&mut self, edge: u32, count: u32)
         requires { HasRoom count self.old }
         ensures { self.new.events ≡ self.old.events ++ steps_of edge count }
@@ -155,7 +181,8 @@ impl<K: Keeping> JournalBuilder<K> {
     }
 
     /// Appends the stamps that an edge received for paths that it sweeps one after another, and after each stamp the
-    /// step that asks for the next path. It takes no memory.
+    /// step that asks for the next path. The events take no memory. If memory for the replies of the edge runs out,
+    /// `replies_to` fails from here on.
     pub fn push_row(&mut self, edge: u32, stamps: &[u64])
         requires { HasRowRoom (length stamps.now) self.old }
         ensures { self.new.events ≡ self.old.events ++ row_events edge stamps.now }
@@ -166,7 +193,7 @@ impl<K: Keeping> JournalBuilder<K> {
     }
 
     /// Appends the stamp that an edge received for a path that it sweeps, and the step that asks for the next path.
-    /// It takes no memory.
+    /// The events take no memory.
     fn push_swept(&mut self, edge: u32, stamp: u64)
         requires room { HasRoom 2 self.old }
         requires stamp { 1 ≤ self.old.stamps_left }
@@ -177,7 +204,7 @@ impl<K: Keeping> JournalBuilder<K> {
         self.push_step(edge);
     }
 
-    /// Appends a stamp that an edge received. It takes no memory.
+    /// Appends a stamp that an edge received. The event takes no memory.
     fn push_stamp(&mut self, edge: u32, stamp: u64)
         requires room { HasRoom 1 self.old }
         requires stamp { 1 ≤ self.old.stamps_left }
@@ -189,7 +216,9 @@ impl<K: Keeping> JournalBuilder<K> {
             Form::Kept(columns) => columns.push_stamp_within(edge, stamp),
             Form::Counted(count) => *count += 1,
         }
-        self.history = self.history.and(&Event::Reply(edge, Reply::Stamp(stamp)));
+        let reply = Reply::Stamp(stamp);
+        self.replies.push(self.alloc, edge, &reply);
+        self.history = self.history.and(&Event::Reply(edge, reply));
     }
 
     /// Appends the same event as this one. It shares what its reply brings.
@@ -208,6 +237,7 @@ impl<K: Keeping> JournalBuilder<K> {
                 None => return Err(AllocError),
             },
         }
+        self.replies.push_event(self.alloc, event);
         self.history = self.history.and(event);
         Ok(())
     }
@@ -233,6 +263,7 @@ impl<K: Keeping> JournalBuilder<K> {
             Form::Kept(columns) => columns.remove_last(),
             Form::Counted(count) => *count = count.saturating_sub(1),
         }
+        self.replies = EdgeReplies::Unknown;
         self.history = self.history.without_last();
     }
 }

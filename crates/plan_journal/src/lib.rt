@@ -1,12 +1,14 @@
 //! Journals: the events of a run in their order.
 //!
-//! - `JournalBuilder`: a journal that grows and is cut back at its end.
-//! - `Journal`: the events of a run, of which a program sees only how many there are.
+//! - `JournalBuilder`: a journal that grows and is cut back at its end. If `Keeping` says so, it has the replies of each
+//!   edge at hand.
+//! - `Journal`: the events of a run. A program sees only their number.
 //! - `KeptJournal`: the same events in columns, to be read. There is one if `Keeping` says so.
-//! - `Events`: what is left of a kept journal that is read from its front; `ReadEvent`: an event that was read.
+//! - `Events`: the events of a kept journal that aren't read yet. `ReadEvent`: an event that was read.
 #![tactic(auto)]
 
 mod column_builder;
+mod edge_replies;
 mod events;
 mod journal;
 mod journal_builder;

@@ -59,12 +59,18 @@ fn said_by(event: &Event) -> Said {
 enum Kept {}
 
 impl Keeping for Kept {
-    ghost use Rattle.std.specs.Prelude.{true};
+    ghost use Rattle.std.specs.Prelude.{false, true};
 
     ghost keeps = { true };
 
     fn keeps() -> bool {
         true
+    }
+
+    ghost observes = { false };
+
+    fn observes() -> bool {
+        false
     }
 }
 
@@ -78,6 +84,31 @@ impl Keeping for Counted {
 
     fn keeps() -> bool {
         false
+    }
+
+    ghost observes = { false };
+
+    fn observes() -> bool {
+        false
+    }
+}
+
+/// Events of these tests are only counted, but the replies of each edge are kept.
+enum Observed {}
+
+impl Keeping for Observed {
+    ghost use Rattle.std.specs.Prelude.{false, true};
+
+    ghost keeps = { false };
+
+    fn keeps() -> bool {
+        false
+    }
+
+    ghost observes = { true };
+
+    fn observes() -> bool {
+        true
     }
 }
 
@@ -222,5 +253,82 @@ fn no_more_are_counted_than_a_number_holds(rt: HostRuntime) -> Result<(), Fail> 
     assert!(rt; builder.reserve(usize::MAX - 7).is_err());
     assert!(rt; builder.reserve_row(usize::MAX / 2).is_err());
     assert_eq!(rt; builder.len(), 8);
+    Ok(())
+}
+
+/// Returns the number of replies to an edge, and the stamp that the first one brings. Returns None if they aren't kept.
+fn replies_of<K: Keeping>(
+    builder: &JournalBuilder<K>,
+    edge: u32,
+) -> Result<Option<(usize, Option<u64>)>, AllocError> {
+    match builder.replies_to(edge)? {
+        Some(replies) => {
+            let stamp = match replies.as_slice().first() {
+                Some(Reply::Stamp(stamp)) => Some(*stamp),
+                _ => None,
+            };
+            Ok(Some((replies.len(), stamp)))
+        }
+        None => Ok(None),
+    }
+}
+
+/// Returns what `replies_of` returns for three edges.
+fn replies_of_all<K: Keeping>(
+    builder: &JournalBuilder<K>,
+    edges: [u32; 3],
+) -> Result<[Option<(usize, Option<u64>)>; 3], AllocError> {
+    let [first, second, third] = edges;
+    let first = replies_of(builder, first)?;
+    let second = replies_of(builder, second)?;
+    let third = replies_of(builder, third)?;
+    Ok([first, second, third])
+}
+
+#[test]
+fn replies_come_by_edge(rt: HostRuntime) -> Result<(), Fail> {
+    let builder: JournalBuilder<Observed> = full(rt.alloc())?;
+    assert_eq!(rt;
+        replies_of_all(&builder, [0, 1, 2])?,
+        [Some((1, Some(7))), Some((1, None)), Some((0, None))]
+    );
+    assert_eq!(rt;
+        replies_of_all(&builder, [4, 5, 99])?,
+        [Some((1, Some(9))), Some((1, None)), Some((0, None))]
+    );
+    Ok(())
+}
+
+/// Stamps of a row come before a reply that is pushed later.
+#[test]
+fn replies_of_a_row_come_by_edge(rt: HostRuntime) -> Result<(), Fail> {
+    let mut builder: JournalBuilder<Observed> = JournalBuilder::new(rt.alloc());
+    builder.reserve_row(2)?;
+    builder.push_row(3, &[8, 9]);
+    builder.push_heard(3, &Reply::Exit(0))?;
+    assert_eq!(rt;
+        replies_of_all(&builder, [2, 3, 4])?,
+        [Some((0, None)), Some((3, Some(8))), Some((0, None))]
+    );
+    Ok(())
+}
+
+/// Replies aren't known when an event was removed.
+#[test]
+fn no_replies_after_a_removal(rt: HostRuntime) -> Result<(), Fail> {
+    let mut builder: JournalBuilder<Observed> = full(rt.alloc())?;
+    builder.remove_last();
+    assert!(rt; builder.replies_to(0).is_err());
+    Ok(())
+}
+
+#[test]
+fn journal_has_no_replies_unasked(rt: HostRuntime) -> Result<(), Fail> {
+    let counted: JournalBuilder<Counted> = full(rt.alloc())?;
+    let kept: JournalBuilder<Kept> = full(rt.alloc())?;
+    assert_eq!(rt;
+        (replies_of(&counted, 0)?, replies_of(&kept, 0)?),
+        (None, None)
+    );
     Ok(())
 }

@@ -6,6 +6,7 @@ mod ObservableLemmas
 mod StampRowLemmas
 mod BoardLemmas
 mod StepLemmas
+mod ObservedLemmas
 mod LocalRunLemmas
 mod RestLemmas
 mod ProceedLemmas

@@ -7,7 +7,7 @@ use Rattle.std.specs.Prelude.{◌&&◌, if◌then◌else◌, nat_lt, slice_get, 
 pub some_is : {A : Type 0} (x y : A) → ◌≡◌ {A = Option A} (Some x) (Some y) → x ≡ y
 some_is x y is = cc
 
--- an item that is there lies within
+-- the index of an item is less than the length
 pub none_within : (xs ys : List ℕ) (i n : ℕ) → slice_get xs i ≡ Some n → ys ≡ xs → false ≡ nat_lt i (length ys) → ⊥
 none_within xs ys i n at same out =
     let clash : false ≡ true = out ∙ ap (λ (l : List ℕ). nat_lt i (length l)) same ∙ lt-ltb i (length xs) (slice_get_within xs i n at) in cc

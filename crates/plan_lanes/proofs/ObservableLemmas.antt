@@ -74,7 +74,7 @@ ends_on : (p : Parts) (xs : List Mark) (x : Mark) → ends p (xs ++ x ∷ []) �
 ends_on p [] x = refl
 ends_on p (y ∷ ys) x = ap (λ (n : ℕ). (if tells_end p y then 1 else 0) + n) (ends_on p ys x) ∙ omega arith
 
--- after marks of which as many say how an edge ended
+-- after marks with the same number of ends of edges
 behind : (p : Parts) (total : ℕ) (marks before others : List Mark) → ends p others ≡ ends p before → lines_behind p total others (observable marks) ≡ lines_behind p total before marks
 behind p total [] before others same = refl
 behind p total (x ∷ xs) before others same = by (λ one other h. behind p total xs one other h) (is_observable x) refl

@@ -23,9 +23,9 @@ pub record Goes (old new : Progress) (event : Event) : Type 0 where
   pub mark : Mark
   pub applies : Applies old new event mark
 
--- What one advance did. `Moved`: an event that doesn't ask. `Job`: one that asks just this question; a permit comes
--- with a Run alone, and says whether the edge is a console edge. `Wait`: nothing, since no start, skip, stop or step is
--- enabled, and an edge awaits a reply. `Ended`: nothing, since the run has ended.
+-- The effect of one advance. `Moved`: an event that doesn't ask. `Job`: an event that asks exactly this question. There
+-- is a permit only if the question is a Run, and the permit says whether the edge is a console edge. `Wait`: nothing,
+-- since no start, skip, stop or step is enabled, and an edge awaits a reply. `Ended`: nothing, since the run has ended.
 abbrev pub Advances : Progress → Progress → Advance → Type 0
 Advances old new Moved = (event : Event) × Goes old new event × AsksNothing old.opened.parts (run_state_of old) event
 Advances old new (Job e question permit) =
@@ -37,7 +37,7 @@ Advances old new (Job e question permit) =
 Advances old new Wait = (new ≡ old) × ((event : Event) → is_own event ≡ true → IsEnabled old.opened.parts (run_state_of old) event → ⊥) × Awaits old.state
 Advances old new Ended = (new ≡ old) × (has_ended old.state ≡ true)
 
--- what an event would ask, as a lane carries it; none if the event isn't enabled or doesn't ask
+-- the request that an event would make, as a lane carries it; None if the event isn't enabled or doesn't ask
 abbrev pub WouldAsk : Parts → RunState → Event → Option OwnedRequest → Type 0
 WouldAsk p g event (Some asked) = Asks p g event (shown asked)
 WouldAsk p g event None = AsksNothing p g event

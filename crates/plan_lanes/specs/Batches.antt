@@ -1,4 +1,4 @@
--- What a lane holds, and what it takes.
+-- The questions that a lane holds, and those that it takes.
 use Rattle.std.specs.Prelude.{◌≡◌, ◌⊎◌, ℕ, true, false, List, [], ◌∷◌, ◌++◌, Option, IfSome, get_or, map}
 use Rattle.plan_verify.specs.Turn.{Request, Stat}
 use Rattle.plan_machine.specs.declared.event.Event.{Event}
@@ -8,7 +8,7 @@ use Rattle.plan_machine.specs.declared.event.reply.Reply.{Reply}
 use Rattle.plan_machine.specs.State.{has_ended}
 use Rattle.plan_status.specs.Consoles.{is_console}
 use Rattle.plan_lanes.specs.declared.lanes.BatchEnd.{BatchEnd}
-use Rattle.plan_lanes.specs.declared.lanes.BatchEnd.TheVariants.{Full, Run, Wait, Ended, NoMemory}
+use Rattle.plan_lanes.specs.declared.lanes.BatchEnd.TheVariants.{Full, AskFirst, Run, Wait, Ended, NoMemory}
 use Rattle.plan_lanes.specs.Boards.{Applies, IsOpen}
 use Rattle.plan_lanes.specs.Journals.{Rule}
 use Rattle.plan_lanes.specs.Proceeds.{AnswersRow, CanOnlyWait, asking}
@@ -34,11 +34,11 @@ IsHeldOpen b h = IsOpen b h.edge h.number h.request
 abbrev pub Answers : Rule → Progress → Progress → Held → Type 0
 Answers rule old new h = (reply : Reply) × (told : Mark) × rule h.number h.request reply × Applies old new (Hear h.edge reply) told × IsHeldOpen old h
 
--- or the first stamp of a row was applied as the reply
+-- a reply that the rule allows, or the first stamp of a row, was applied
 abbrev pub AppliesReply : Rule → Progress → Progress → Held → Type 0
 AppliesReply rule old new h = Answers rule old new h ⊎ ((stamps : List ℕ) × AnswersRow old new h.edge stamps false × IsHeldOpen old h)
 
--- the stamps of a row are for it
+-- the stamps of a row are for this question
 pub record IsRowOf (h : Held) (r : Stamps) : Type 0 where
   pub edge : r.edge ≡ h.edge
   pub number : r.number ≡ h.number
@@ -54,8 +54,8 @@ abbrev pub RunNothing : List Held → Type 0
 RunNothing [] = Unit {0}
 RunNothing (h ∷ hs) = (is_run h.request ≡ false) × RunNothing hs
 
--- Events were applied. Each edge that asked is that of one more question which is held, in their order; others asked last.
--- No question to run a command is held.
+-- Events were applied. For each edge that asked, one more question is held, in this order, except for the edges that
+-- asked last. No question to run a command is held.
 pub record Gathers (old new : Progress) (before after : List Held) (others : List ℕ) : Type 0 where
   pub events : List Event
   pub told : List Mark
@@ -65,10 +65,11 @@ pub record Gathers (old new : Progress) (before after : List Held) (others : Lis
   pub each : asking told ≡ map (λ h. h.edge) more ++ others
   pub plain : RunNothing more
 
--- What a lane took. `Run`: the last edge that asked is to run its command, whose question is open, and the permit says
--- whether it is a console edge. `Wait`: nothing can be done without a reply. `Ended`: the run has ended.
+-- What a lane took. `Run`: the last edge that asked wants to run its command, its question is open, and the permit says
+-- whether it is a console edge. `Wait`: no event can be applied without a reply. `Ended`: the run has ended.
 abbrev pub Takes : Progress → Progress → List Held → List Held → BatchEnd → Type 0
 Takes old new before after Full = Gathers old new before after []
+Takes old new before after AskFirst = Gathers old new before after []
 Takes old new before after (Run e question permit) =
     Gathers old new before after (e ∷ []) × IsOpen new e question.number (shown question.request)
     × (is_run (shown question.request) ≡ true) × (permit.console ≡ is_console new.opened.parts e)

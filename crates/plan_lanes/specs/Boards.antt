@@ -24,14 +24,14 @@ pub record IsFresh (o : Opened) (b : Progress) : Type 0 where
   pub journal : b.journal ≡ []
   pub marks : b.marks ≡ []
 
--- one event more was applied, and is journaled, with its mark if the mark is observable
+-- one more event was applied and journaled, and its mark was kept if it is observable
 pub record Applies (old new : Progress) (event : Event) (mark : Mark) : Type 0 where
   pub opened : new.opened ≡ old.opened
   pub next : step depfile old.opened.parts old.opened.limits old.state event ≡ Next new.state mark
   pub journal : new.journal ≡ old.journal ++ event ∷ []
   pub marks : new.marks ≡ old.marks ++ observable (mark ∷ [])
 
--- an edge awaits the reply to just this request, which the event at this position asked
+-- an edge awaits the reply to exactly this request, which the event at this position made
 pub record IsOpen (b : Progress) (e number : ℕ) (q : Request) : Type 0 where
   pub asked : asked_at b.opened.parts b.state e ≡ Some q
   pub position : IsLastOf e number b.journal
@@ -42,7 +42,7 @@ IsNumbered b e number = (l : Local) → slice_get b.state.edges e ≡ Some (Acti
 
 -- ---- what a board keeps
 
--- of each edge that is under way the position of its last event is known
+-- the position of the last event of each edge that is under way is known
 abbrev pub AreNumbers : List ℕ → Progress → Type 0
 AreNumbers numbers b = (e : ℕ) (l : Local) → slice_get b.state.edges e ≡ Some (Active l) → (n : ℕ) × (slice_get numbers e ≡ Some n) × IsLastOf e n b.journal
 
@@ -60,7 +60,7 @@ pub record IsKept (rule : Rule) (numbers : List ℕ) (r : Running) (b : Progress
   pub all : length numbers ≡ length b.opened.parts.edges
   pub state : IsStateOf b.opened.parts r
 
--- the event is no reply, or one that the rule allows for the open question
+-- the event isn't a reply, or the rule allows the reply for the open question
 abbrev pub MayJournal : Rule → Progress → Event → Type 0
 MayJournal rule b event =
     (e : ℕ) (r : Reply) (q : Request) (n : ℕ) → event ≡ Hear e r → asked_at b.opened.parts b.state e ≡ Some q → IsLastOf e n b.journal → rule n q r

@@ -1,4 +1,4 @@
--- Why no whole run is reported.
+-- The reasons why lanes return no complete run.
 use Rattle.std.specs.Prelude.{◌≡◌, ℕ, true, false, Option, Some, None}
 use Rattle.plan_machine.specs.declared.run.refused.Refused.TheVariants as refused
 use Rattle.plan_machine.specs.Faults.{number_of as refusal_number}
@@ -12,7 +12,7 @@ use Rattle.plan_lanes.specs.Journals.{Rule}
 use Rattle.plan_lanes.specs.Progress.{Opened}
 use Rattle.plan_lanes.specs.Reports.{IsRunOf}
 
--- the run wasn't opened, as the machine says; or it was, and this is the run so far
+-- the run wasn't opened, for this reason of the machine; or it was opened, and this is the run so far
 abbrev pub FaultReports : Rule → Opened → LaneFault → Type 0
 FaultReports rule o (Opening refused.BadTarget) = any_outside o.parts o.targets ≡ true
 FaultReports rule o (Opening refused.Memory) = any_outside o.parts o.targets ≡ false

@@ -13,7 +13,7 @@ use Rattle.plan_machine.specs.Requests.{asked_at}
 use Rattle.plan_machine.specs.Runs.{Reached}
 use Rattle.plan_machine.specs.State.{State}
 
--- what a world may reply, by the number of the question and the question
+-- the replies that a world may give, by the number of the question and the question
 abbrev pub Rule : Type 1
 Rule = ℕ → Request → Reply → Type 0
 
@@ -24,8 +24,8 @@ pub record IsLastOf (e n : ℕ) (journal : List Event) : Type 0 where
   pub is : edge_of event ≡ e
   pub last : (k : ℕ) (other : Event) → n < k → slice_get journal k ≡ Some other → edge_of other ≢ e
 
--- Each reply is one that the rule allows for what its edge had asked before it, under the number of that question: the
--- position of the edge's last event before the reply.
+-- The rule allows each reply for the question that its edge had asked before, under the number of that question. The
+-- number is the position of the edge's last event before the reply.
 abbrev pub IsAllowed : Rule → Parts → Limits → List ℕ → List Event → Type 0
 IsAllowed rule p limits targets journal =
     (i e : ℕ) (r : Reply) (s : State) (marks : List Mark) (q : Request) (n : ℕ)

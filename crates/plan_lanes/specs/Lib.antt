@@ -13,3 +13,4 @@ pub mod LocalRuns
 pub mod Proceeds
 pub mod Batches
 pub mod Running
+pub mod Observations

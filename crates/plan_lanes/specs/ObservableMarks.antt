@@ -18,6 +18,6 @@ abbrev pub observable : List Mark → List Mark
 observable [] = []
 observable (mark ∷ marks) = if is_observable mark then mark ∷ observable marks else observable marks
 
--- the status lines of all marks are theirs
+-- the status lines of all marks are those of the observable marks
 abbrev pub TellAllLines : Type 0
 TellAllLines = (p : Parts) (total : ℕ) (marks : List Mark) → lines_of p total (observable marks) ≡ lines_of p total marks

@@ -1,4 +1,4 @@
--- What lanes' own calls of a board do: as an advance and an answer, over several events.
+-- The effect of the calls of a board that only lanes use: like an advance and an answer, but over several events.
 use Rattle.std.specs.Prelude.{◌≡◌, ◌+◌, ◌⊎◌, ℕ, Bool, true, false, List, [], ◌∷◌, ◌++◌, Option, Some, IfSome, is_some, length, slice_get, take}
 use Rattle.plan_image.specs.declared.image.Parts.{Parts}
 use Rattle.plan_verify.specs.Turn.{Local, Request}
@@ -21,7 +21,7 @@ use Rattle.plan_lanes.specs.Progress.{Progress, run_state_of}
 use Rattle.plan_lanes.specs.Questions.{is_run, shown}
 use Rattle.plan_lanes.specs.LocalRuns.{AppliesAll, Follows, SweepsRow}
 
--- the edges that asked, by some marks
+-- the edges that asked, according to these marks
 abbrev pub asking_by : Mark → List ℕ
 asking_by (mark.Asked e) = e ∷ []
 asking_by _ = []
@@ -38,8 +38,8 @@ pub record MovesOn (old new : Progress) : Type 0 where
   pub applies : AppliesAll old new (first ∷ rest) told
   pub silent : asking told ≡ []
 
--- Some events were applied, and one edge asked, by the last of them. It awaits the reply to just this question, whose
--- number is the position of that event.
+-- Some events were applied, and the last of them was the only one that asked. Its edge awaits the reply to exactly this
+-- question. The number of the question is the position of that event.
 pub record AsksLast (old new : Progress) (e number : ℕ) (q : Request) : Type 0 where
   pub events : List Event
   pub told : List Mark
@@ -48,7 +48,7 @@ pub record AsksLast (old new : Progress) (e number : ℕ) (q : Request) : Type 0
   pub question : IsOpen new e number q
   pub last : number + 1 ≡ length new.journal
 
--- a permit comes with a Run alone, and says whether the edge is a console edge
+-- there is a permit only if the question is a Run, and the permit says whether the edge is a console edge
 abbrev pub Permits : Parts → ℕ → Request → Option Permit → Type 0
 Permits p e q permit = (is_some permit ≡ is_run q) × IfSome permit (λ x. x.console ≡ is_console p e)
 
@@ -56,7 +56,7 @@ Permits p e q permit = (is_some permit ≡ is_run q) × IfSome permit (λ x. x.c
 abbrev pub CanOnlyWait : Progress → Type 0
 CanOnlyWait b = ((event : Event) → is_own event ≡ true → IsEnabled b.opened.parts (run_state_of b) event → ⊥) × Awaits b.state
 
--- What a board did that went on without a reply: as one advance, but for how many events that took.
+-- The effect on a board that went on without a reply: like one advance, but with any number of events.
 abbrev pub Proceeds : Progress → Progress → Advance → Type 0
 Proceeds old new Moved = MovesOn old new
 Proceeds old new (Job e question permit) = AsksLast old new e question.number (shown question.request) × Permits old.opened.parts e (shown question.request) permit
@@ -77,8 +77,8 @@ pub record HearsFront (old new : Progress) (e : ℕ) (stamps : List ℕ) (stamp 
   pub front : SweepsRow old new e (take count stamps)
   pub next : slice_get stamps count ≡ Some stamp
 
--- All stamps of a row were applied so; or only the first ones, and then the next one, after which the edge made a local
--- run.
+-- All stamps of a row were applied in this way. Or only the first stamps were, and then the next one, after which the
+-- edge made a local run.
 abbrev pub HearsRow : Progress → Progress → ℕ → List ℕ → Bool → Type 0
 HearsRow old new e stamps asked =
     (SweepsRow old new e stamps × (asked ≡ true))

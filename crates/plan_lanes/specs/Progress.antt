@@ -1,4 +1,4 @@
--- What a board shows.
+-- The progress of a run, as a contract sees it of a board.
 use Rattle.std.specs.Prelude.{ℕ, List}
 use Rattle.plan_image.specs.declared.image.Parts.{Parts}
 use Rattle.plan_machine.specs.Limits.{Limits}
@@ -7,7 +7,7 @@ use Rattle.plan_machine.specs.declared.event.Mark.{Mark}
 use Rattle.plan_machine.specs.RunState.{RunState}
 use Rattle.plan_machine.specs.State.{State}
 
--- what a run was opened with: an image, options, targets
+-- the arguments of the opening of a run: an image, options, targets
 pub record Opened : Type 0 where
   pub parts : Parts
   pub limits : Limits
@@ -16,14 +16,14 @@ pub record Opened : Type 0 where
 abbrev pub opened_with : Parts → Limits → List ℕ → Opened
 opened_with parts limits targets = record { parts = parts; limits = limits; targets = targets }
 
--- how far a run is: what it was opened with, its state, its events, and their observable marks
+-- the progress of a run: the arguments of its opening, its state, its events, and their observable marks
 pub record Progress : Type 0 where
   pub opened : Opened
   pub state : State
   pub journal : List Event
   pub marks : List Mark
 
--- the options and the state, as the machine speaks of them
+-- the options and the state, in the form that the machine uses
 abbrev pub run_state_of : Progress → RunState
 run_state_of b = record { limits = b.opened.limits; now = b.state }
 

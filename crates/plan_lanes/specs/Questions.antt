@@ -1,10 +1,10 @@
--- What lanes carry of a question.
+-- Questions, as lanes carry them.
 use Rattle.std.specs.Prelude.{Bool, true, false, [], get_or}
 use Rattle.plan_verify.specs.Turn.{Request, Stat, Recall, Run, Deps, Keep}
 use Rattle.plan_lanes.specs.declared.batch.OwnedRequest.{OwnedRequest}
 use Rattle.plan_lanes.specs.declared.batch.OwnedRequest.TheVariants as asked
 
--- as one edge's step speaks of it
+-- the request, in the form that a step of an edge uses
 abbrev pub shown : OwnedRequest → Request
 shown (asked.Stat path) = Stat path
 shown (asked.Sweep paths place) = Stat (get_or paths place [])
@@ -13,7 +13,7 @@ shown (asked.Run command outputs) = Run command outputs
 shown (asked.Deps path) = Deps path
 shown (asked.Keep output command basis paths) = Keep output command basis paths
 
--- to run a command
+-- the request asks to run a command
 abbrev pub is_run : Request → Bool
 is_run (Run command outputs) = true
 is_run _ = false

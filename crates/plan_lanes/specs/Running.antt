@@ -1,4 +1,4 @@
--- Commands that run at once, and their places.
+-- Commands that run at the same time, and their job tokens.
 use Rattle.std.specs.Prelude.{◌≡◌, ◌≤◌, ◌<◌, ◌+◌, ◌&&◌, ℕ, Bool, true, false, List, [], ◌∷◌, Option, Some, None, if◌then◌else◌, slice_get}
 use Rattle.plan_image.specs.declared.image.Edge.{Edge}
 use Rattle.plan_image.specs.declared.image.Pool.{Pool}
@@ -20,25 +20,25 @@ abbrev pub awaits_run : Option Request → Bool
 awaits_run (Some q) = is_run q
 awaits_run None = false
 
--- how many edges do, where these are the edges from e on
+-- the number of these edges that do so; the first of them has the number e
 abbrev pub running : Parts → State → ℕ → List Edge → ℕ
 running p s e [] = 0
 running p s e (edge ∷ edges) = (if awaits_run (asked_at p s e) then 1 else 0) + running p s (e + 1) edges
 
--- and how many of a pool
+-- the number of these edges that do so and are in a pool
 abbrev pub running_of : Parts → ℕ → State → ℕ → List Edge → ℕ
 running_of p pool s e [] = 0
 running_of p pool s e (edge ∷ edges) = (if is_pool pool (pool_of p e) && awaits_run (asked_at p s e) then 1 else 0) + running_of p pool s (e + 1) edges
 
 pub record KeepsToPlaces (p : Parts) (limits : Limits) (s : State) : Type 0 where
-  -- an edge that asked to run its command holds a place, as long as it awaits the reply
+  -- an edge that asked to run its command holds a job token as long as it awaits the reply
   pub holds : (e : ℕ) (command : List ℕ) (outputs : List (List ℕ)) → asked_at p s e ≡ Some (Run command outputs) → stands is_holder s e ≡ true
-  -- no more edges await such a reply at once than there are jobs
+  -- the number of edges that await such a reply is at most the number of jobs
   pub in_jobs : running p s 0 p.edges ≤ limits.jobs
-  -- nor more of a pool than its depth
+  -- in each pool it is at most the depth
   pub in_depth : (pool : ℕ) (row : Pool) → slice_get p.pools pool ≡ Some row → 0 < row.depth → running_of p pool s 0 p.edges ≤ row.depth
 
--- commands keep to places in each state that a run reaches
+-- this holds in each state that a run reaches
 abbrev pub CommandsKeepToPlaces : Type 0
 CommandsKeepToPlaces =
     (meaning : Meaning) (p : Parts) → IsWellShaped p → (limits : Limits) (targets : List ℕ) (events : List Event) (marks : List Mark) (s : State)

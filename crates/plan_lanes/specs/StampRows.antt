@@ -10,8 +10,8 @@ HaveStamps rule paths [] = Unit {0}
 HaveStamps rule [] (stamp ∷ stamps) = ⊥
 HaveStamps rule (path ∷ paths) (stamp ∷ stamps) = ((number : ℕ) → rule number (Stat path) (Stamp stamp)) × HaveStamps rule paths stamps
 
--- what a contract sees of a row: the edge, the number of its question, the paths that it goes through, the place of the first path, and the
--- stamps from that path on
+-- what a contract sees of a row: the edge, the number of its question, the paths that the edge goes through, the index
+-- of the first path of the row, and the stamps from that path on
 pub record Stamps : Type 0 where
   pub edge : ℕ
   pub number : ℕ
@@ -22,7 +22,7 @@ pub record Stamps : Type 0 where
 abbrev pub stamps_of : ℕ → ℕ → List (List ℕ) → ℕ → List ℕ → Stamps
 stamps_of edge number paths from stamps = record { edge = edge; number = number; paths = paths; from = from; stamps = stamps }
 
--- of one path at least
+-- the row has at least one path
 pub record IsRow (rule : Rule) (r : Stamps) : Type 0 where
   pub some : 0 < length r.stamps
   pub within : r.from + length r.stamps ≤ length r.paths

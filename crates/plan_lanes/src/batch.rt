@@ -18,7 +18,7 @@ use std::alloc::{AllocError, Global};
 use std::collections::VecDeque;
 use std::marker::Model;
 
-/// A question of an edge. After the world was asked, the item also has the reply, or the stamps of a row of paths that
+/// A question of an edge. Once the world was asked, the item also has the reply, or the stamps of a row of paths that
 /// begins with the path of the question. The world's rule allows them for this question.
 #[derive(Drop)]
 pub struct BatchItem<W: World> {
@@ -40,7 +40,7 @@ impl<W: World> Model for BatchItem<W> {
     ghost invariant = { λ m. IsHeard W.allows (held m.edge m.question.number (shown m.question.request)) m.reply m.row };
 }
 
-/// Returns the world's reply to a question that isn't to run a command. None if memory ran out.
+/// Returns the world's reply to a question that doesn't ask to run a command. Returns None if memory ran out.
 fn reply_of<W: World>(world: &W, question: &Question) -> Option<Reply>
     ensures { IfSome result (λ r. W.allows question.now.number (shown question.now.request) r) }
 {
@@ -72,7 +72,7 @@ impl<W: World> BatchItem<W> {
         }
     }
 
-    /// Creates a question for which the world was asked, with its reply. The reply is none if memory ran out.
+    /// Creates a question for which the world was asked, with its reply. The reply is None if memory ran out.
     pub fn with_reply(edge: u32, question: Question, reply: Option<Reply>) -> BatchItem<W>
         requires { IfSome reply (λ r. W.allows question.number (shown question.request) r) }
         ensures { result ≡ held edge question.number (shown question.request) }
@@ -91,7 +91,7 @@ impl<W: World> BatchItem<W> {
         self.asked
     }
 
-    /// Returns the number of questions that the world is asked for it.
+    /// Returns the number of questions to the world that this item needs.
     pub fn count(&self) -> usize {
         self.question.request.count()
     }
@@ -151,7 +151,7 @@ impl<W: World> BatchItem<W> {
 }
 
 /// Asks the world up to `most` questions that it wasn't asked yet. A row of paths may exceed that number. Returns
-/// whether others are left.
+/// whether unasked questions are left.
 fn ask_some<W: World>(
     requests: &mut VecDeque<BatchItem<W>>,
     alloc: Global,
@@ -282,12 +282,12 @@ impl<W: World> Batch<W> {
         })
     }
 
-    /// Checks whether it holds no question.
+    /// Checks whether the batch holds no question.
     pub fn is_empty(&self) -> bool {
         self.held.is_empty()
     }
 
-    /// Checks whether it holds as many questions as it should.
+    /// Checks whether the batch holds at least as many questions as it should.
     pub fn is_full(&self) -> bool {
         self.count >= FULL
     }
@@ -305,7 +305,7 @@ impl<W: World> Batch<W> {
         ask_some(&mut self.held, self.alloc, world, usize::MAX);
     }
 
-    /// Asks the world some of the questions that it wasn't asked yet. Returns whether others are left.
+    /// Asks the world some of the questions that it wasn't asked yet. Returns whether unasked questions are left.
     pub fn ask_some(&mut self, world: &W) -> bool {
         ask_some(&mut self.held, self.alloc, world, QUESTIONS)
     }
@@ -344,24 +344,25 @@ impl<W: World> Batch<W> {
     }
 }
 
-/// What an edge asked, with texts and paths of its own.
+/// A request of an edge, with texts and paths of its own.
 #[derive(Drop)]
 pub enum OwnedRequest {
-    /// When the file of this path was last changed.
+    /// Asks when the file of this path was last changed.
     Stat(Items<u8>),
-    /// The same, of a path of a list that the edge goes through, at this index.
+    /// Asks the same about the path at this index of a list that the edge goes through.
     Sweep(PathList, u32),
-    /// What the record has for this output.
+    /// Asks for the entry that the record has for this output.
     Recall(Items<u8>),
-    /// To run this command, which makes these files.
+    /// Asks to run this command, which makes these files.
     Run(Items<u8>, RowList<u8>),
-    /// The depfile of this path.
+    /// Asks for the depfile at this path.
     Deps(Items<u8>),
-    /// To keep an entry for an output: its command, the stamp that it was made from, and its dependencies.
+    /// Asks to keep an entry for an output: its command, its basis (the greatest stamp that the edge read), and its
+    /// dependencies.
     Keep(Items<u8>, Items<u8>, u64, PathList),
 }
 
-/// A question: what an edge asked, and the position in the journal, from 0, of the event that asked.
+/// A question: the request of an edge, and the position in the journal, from 0, of the event that asked.
 #[derive(Drop)]
 pub struct Question {
     pub number: u64,
@@ -419,7 +420,7 @@ fn are_paths(one: &PathList, other: &PathList) -> bool
 }
 
 impl OwnedRequest {
-    /// Returns what a request asks, with texts of its own.
+    /// Returns a copy of a request, with texts of its own.
     pub(crate) fn of(alloc: Global, request: &Request<'_>) -> Result<OwnedRequest, AllocError>
         ensures { IfOk result (λ asked. shown asked ≡ request_shown request.now) }
     {
@@ -440,7 +441,7 @@ impl OwnedRequest {
         }
     }
 
-    /// Checks whether it is what a request asks.
+    /// Checks whether it is a copy of a request.
     pub(crate) fn is_of(&self, request: &Request<'_>) -> bool
         ensures { IsTrue result ↔ (shown self.now ≡ request_shown request.now) }
     {

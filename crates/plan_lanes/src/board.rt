@@ -15,6 +15,7 @@ ghost use Rattle.plan_status.specs.Consoles.{is_console};
 ghost use Rattle.plan_lanes.specs.Advances.{Advances, WouldAsk};
 ghost use Rattle.plan_lanes.specs.Boards.{Applies, IsFresh, IsOpen, MayJournal};
 ghost use Rattle.plan_lanes.specs.Journals.{IsLastOf};
+ghost use Rattle.plan_lanes.specs.Observations.{Observes, observed_if};
 ghost use Rattle.plan_lanes.specs.Proceeds.{Proceeds};
 ghost use Rattle.plan_lanes.specs.Progress.{Opened, opened_with, run_state_of};
 ghost use Rattle.plan_lanes.specs.Questions.{is_run, shown};
@@ -25,6 +26,7 @@ pub(crate) mod local_runs;
 
 use crate::batch::{OwnedRequest, Question};
 use crate::keeping_of::KeepingOf;
+use crate::observed::Observed;
 use crate::printed_run::keep;
 use crate::world::World;
 use plan_journal::{Journal, JournalBuilder, KeptJournal};
@@ -33,6 +35,7 @@ use plan_machine::{
     never_wrong, stays_in_budget,
 };
 use plan_status::is_console;
+use plan_text::Items;
 use plan_verify::Verified;
 use std::alloc::{AllocError, Global};
 use std::marker::{Model, PhantomData};
@@ -42,30 +45,59 @@ use std::marker::{Model, PhantomData};
 pub struct Permit {
     edge: u32,
     console: bool,
+    observed: Option<Observed>,
 }
 
 impl Permit {
-    ghost use Rattle.std.specs.Prelude.{◌≡◌};
+    ghost use Rattle.std.specs.Prelude.{◌≡◌, option_map};
 
     /// Creates the permit for the command of an edge. `console` says whether it is a console edge.
-    fn new(edge: u32, console: bool) -> Permit
-        ensures { result.console ≡ console }
+    fn new(edge: u32, console: bool, observed: Option<Observed>) -> Permit
+        ensures edge { result.edge ≡ edge }
+        ensures console { result.console ≡ console }
+        ensures observed { result.observed ≡ observed }
     {
-        Permit { edge, console }
+        Permit {
+            edge,
+            console,
+            observed,
+        }
     }
 
-    /// Checks whether it is the permit of a console edge. Such a command has the program's own standard input, output
-    /// and error, and no other output comes between (the Ninja manual, "The console pool").
+    /// Returns the edge whose command it permits.
+    pub fn edge(&self) -> u32
+        ensures { result ≡ self.now.edge }
+    {
+        self.edge
+    }
+
+    /// Checks whether it is the permit of a console edge. The command of a console edge has the program's own standard
+    /// input, output and error, and nothing else is printed while it runs (the Ninja manual, "The console pool").
     pub fn console(&self) -> bool
         ensures { result ≡ self.now.console }
     {
         self.console
     }
 
+    /// Returns what the edge has observed up to here. Returns None if the journal of the run isn't kept.
+    pub fn observed(&self) -> Option<&Observed>
+        ensures { option_map (λ o. o.now) result ≡ self.now.observed }
+    {
+        match &self.observed {
+            Some(observed) => Some(observed),
+            None => None,
+        }
+    }
+
     /// Spends the permit.
     pub fn spend(self) {
-        let Permit { edge, console } = self;
+        let Permit {
+            edge,
+            console,
+            observed,
+        } = self;
         let _ = (edge, console);
+        drop(observed);
     }
 }
 
@@ -91,8 +123,8 @@ pub struct Report {
     pub marks: Vec<Mark>,
 }
 
-/// A run with its history. A contract sees what it was opened with, and how far it is. Each change of a board is an
-/// event of the machine. Each reply in its journal is one that the world's rule allows for its question.
+/// A run with its history. A contract sees the arguments of its opening, and its progress. Each change of a board is an
+/// event of the machine. The world's rule allows each reply in its journal for the question.
 #[derive(Drop)]
 pub struct Board<'v, W: World> {
     alloc: Global,
@@ -140,23 +172,30 @@ fn put(numbers: &mut Vec<u64>, at: usize, number: u64)
 }
 
 /// Returns the permit for an edge's command if that is what the edge asks for.
-fn permit_for(image: &Verified, edge: u32, request: &OwnedRequest) -> Option<Permit>
+fn permit_for(
+    image: &Verified,
+    edge: u32,
+    request: &OwnedRequest,
+    observed: Option<Observed>,
+) -> Option<Permit>
     ensures run { is_some result ≡ is_run (shown request.now) }
     ensures console { IfSome result (λ p. p.console ≡ is_console image.now edge) }
+    ensures edge { IfSome result (λ p. p.edge ≡ edge) }
+    ensures observed { IfSome result (λ p. p.observed ≡ observed) }
 {
     match request {
-        OwnedRequest::Run(..) => Some(Permit::new(edge, is_console(image, edge))),
+        OwnedRequest::Run(..) => Some(Permit::new(edge, is_console(image, edge), observed)),
         _ => None,
     }
 }
 
 impl<'v, W: World> Board<'v, W> {
-    /// Opens a run of an image. If there are no targets, the run is for the image's defaults. All memory that the state
-    /// needs is allocated here.
+    /// Opens a run of an image. If there are no targets, the run is for the image's defaults. This call allocates all
+    /// memory that the state needs.
     ///
     /// # Errors
-    /// As for `State::open`: `BadTarget` if and only if a target is no edge of the image, unless memory runs out first;
-    /// and `Memory`.
+    /// As for `State::open`: `Memory` if memory runs out, and otherwise `BadTarget` if and only if a target isn't an
+    /// edge of the image.
     pub fn open(
         alloc: Global,
         image: &'v Verified,
@@ -203,8 +242,8 @@ impl<'v, W: World> Board<'v, W> {
         self.state.total()
     }
 
-    /// Applies an event and appends it to the journal, and its mark if that reports something. If the event is refused,
-    /// nothing changes.
+    /// Applies an event and appends it to the journal. Also keeps its mark if the mark reports something. If the event
+    /// is refused, nothing changes.
     fn record(&mut self, event: Event) -> Result<Mark, Refused>
         requires { MayJournal W.allows self.old event }
         ensures ok { IfOk result (λ m. Applies self.old self.new event m) }
@@ -229,12 +268,54 @@ impl<'v, W: World> Board<'v, W> {
         }
     }
 
-    /// Returns what an event would ask, if it is enabled and asks.
+    /// Returns the request that an event would make, if the event is enabled and asks.
     fn question(&self, event: &Event) -> Result<Option<OwnedRequest>, AllocError>
         ensures { IfOk result (λ asked. WouldAsk self.now.opened.parts (run_state_of self.now) event.now asked) }
     {
         match self.state.asks(self.image, event) {
             Some(request) => Ok(Some(OwnedRequest::of(self.alloc, &request)?)),
+            None => Ok(None),
+        }
+    }
+
+    /// Returns what an edge has observed, if the world observes edges.
+    fn observed(&self, edge: u32) -> Result<Option<Observed>, AllocError>
+        ensures { IfOk result (λ o. o ≡ observed_if W.observes self.now edge) }
+    {
+        let Some(replies) = self.journal_builder.replies_to(edge)? else {
+            return Ok(None);
+        };
+        let slots = self.state.loads(self.image, edge)?;
+        Ok(Some(Observed {
+            replies: Items::new(replies),
+            slots: Items::new(slots),
+        }))
+    }
+
+    /// Returns what an edge has observed if it asks to run its command and the world observes edges.
+    fn observed_for(
+        &self,
+        edge: u32,
+        request: &OwnedRequest,
+    ) -> Result<Option<Observed>, AllocError>
+        ensures { IfOk result (λ o. is_run (shown request.now) ≡ true → o ≡ observed_if W.observes self.now edge) }
+    {
+        match request {
+            OwnedRequest::Run(..) => self.observed(edge),
+            _ => Ok(None),
+        }
+    }
+
+    /// Returns what an edge has observed if it is about to ask to run its command and the world observes edges.
+    fn observed_before(
+        &self,
+        edge: u32,
+        asked: &Option<OwnedRequest>,
+    ) -> Result<Option<Observed>, AllocError>
+        ensures { IfOk result (λ o. IfSome asked.now (λ a. is_run (shown a) ≡ true → o ≡ observed_if W.observes self.now edge)) }
+    {
+        match asked {
+            Some(request) => self.observed_for(edge, request),
             None => Ok(None),
         }
     }
@@ -246,41 +327,45 @@ impl<'v, W: World> Board<'v, W> {
         ensures goes { GoesOn self.old self.new }
         ensures ok { IfOk result (λ a. Advances self.old self.new a) }
         ensures proceeds { IfOk result (λ a. Proceeds self.old self.new a) }
+        ensures observes { IfOk result (λ a. Observes W.observes self.new a) }
         ensures err { OnErr result (self.new ≡ self.old) }
         ensures memory { IfErr result (λ r. r ≡ Refused.Memory) }
     {
         let asked = self.question(&event)?;
         let image = self.image;
         let edge = edge_of(&event);
+        let observed = self.observed_before(edge, &asked)?;
         let number = self.journal_builder.len() as u64;
         self.record(event)?;
         match asked {
             None => Ok(Advance::Moved),
             Some(request) => {
-                let permit = permit_for(image, edge, &request);
+                let permit = permit_for(image, edge, &request, observed);
                 Ok(Advance::Job(edge, Question { number, request }, permit))
             }
         }
     }
 
-    /// Does what can be done next without a reply: one event, or nothing if there is none. The time doesn't depend on
-    /// the number of edges, except for the edges that wait for one which ends.
+    /// Applies the next event that needs no reply, or does nothing if no such event is enabled. The time doesn't depend
+    /// on the number of edges, except on the number of edges that wait for an edge which ends.
     ///
     /// # Errors
-    /// `Memory` if memory runs out. Then nothing changed.
+    /// `Memory` if memory runs out. Then nothing has changed.
     pub fn advance(&mut self) -> Result<Advance, Refused>
         ensures ok { IfOk result (λ a. Advances self.old self.new a) }
+        ensures observes { IfOk result (λ a. Observes W.observes self.new a) }
         ensures err { OnErr result (self.new ≡ self.old) }
         ensures memory { IfErr result (λ r. r ≡ Refused.Memory) }
     {
         self.advance_one()
     }
 
-    /// Like `advance`, with a clause about several events too.
+    /// Like `advance`, but its contract also has a clause about several events.
     pub(crate) fn advance_one(&mut self) -> Result<Advance, Refused>
         ensures goes { GoesOn self.old self.new }
         ensures ok { IfOk result (λ a. Advances self.old self.new a) }
         ensures proceeds { IfOk result (λ a. Proceeds self.old self.new a) }
+        ensures observes { IfOk result (λ a. Observes W.observes self.new a) }
         ensures err { OnErr result (self.new ≡ self.old) }
         ensures memory { IfErr result (λ r. r ≡ Refused.Memory) }
     {
@@ -320,11 +405,11 @@ impl<'v, W: World> Board<'v, W> {
     /// Applies a reply that the world's rule allows for a question, and appends it to the journal.
     ///
     /// # Errors
-    /// - `NotEnabled` if and only if the edge doesn't await the reply to this question, or the reply doesn't suit it,
-    ///   unless memory runs out first.
+    /// - `NotEnabled` if and only if the edge doesn't await the reply to this question, or the reply doesn't suit the
+    ///   question, unless memory runs out first.
     /// - `Memory` if memory runs out.
     ///
-    /// Then nothing changed.
+    /// After an error nothing has changed.
     pub fn answer(&mut self, edge: u32, question: Question, reply: Reply) -> Result<Mark, Refused>
         requires { W.allows question.number (shown question.request) reply }
         ensures ok { IfOk result (λ m. Applies self.old self.new (Hear edge reply) m × IsOpen self.old edge question.number (shown question.request)) }

@@ -1,4 +1,4 @@
-//! Why a run isn't reported as whole.
+//! Reasons why lanes return no complete run.
 
 ghost use Rattle.std.specs.Prelude.{◌≡◌};
 ghost use Rattle.plan_lanes.specs.Faults.{number_of};
@@ -6,10 +6,10 @@ ghost use Rattle.plan_lanes.specs.Faults.{number_of};
 use crate::board::Report;
 use plan_machine::Refused;
 
-/// The reason why lanes report no whole run. If the run was opened, the run so far is part of it.
+/// The reason why lanes return no complete run. If the run was opened, the fault holds the run so far.
 #[derive(Drop)]
 pub enum LaneFault {
-    /// The run wasn't opened: a target is no edge, or memory ran out.
+    /// The run wasn't opened: a target isn't an edge, or memory ran out.
     Opening(Refused),
     /// The machine refused a reply of the world, because the reply doesn't suit its question.
     NotEnabled(Report),
@@ -22,8 +22,8 @@ pub enum LaneFault {
 }
 
 impl LaneFault {
-    /// Returns the number of the fault that a program prints: that of the machine's refusal, 110 if a reply doesn't
-    /// suit, or 120 to 122 in the order of the other variants. The numbers are this project's own.
+    /// Returns the number of the fault that a program prints: the number of the machine's refusal, 110 if a reply
+    /// doesn't suit its question, or 120 to 122 in the order of the other variants. The numbers are this project's own.
     pub fn number(&self) -> u8
         ensures { result ≡ number_of self.now }
     {

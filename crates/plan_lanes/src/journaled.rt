@@ -9,14 +9,14 @@ use plan_text::RowList;
 use plan_verify::PathList;
 use std::alloc::AllocError;
 
-/// Another world, in which the journals of runs are kept. It passes all questions on.
+/// Another world, whose runs keep their journals. It passes all questions on.
 #[derive(Drop)]
 pub struct Journaled<'a, W> {
     world: &'a W,
 }
 
 impl<'a, W> Journaled<'a, W> {
-    /// Returns this world, with journals that are kept.
+    /// Wraps a world so that its runs keep their journals.
     pub fn new(world: &'a W) -> Journaled<'a, W>
         ensures { result.world.now ≡ world.now }
     {
@@ -35,6 +35,12 @@ impl<W: World> World for Journaled<'_, W> {
         true
     }
 
+    ghost observes = { W.observes };
+
+    fn observes() -> bool {
+        W::observes()
+    }
+
     fn stat(&self, number: u64, path: &[u8]) -> Result<Reply, AllocError> {
         self.world.stat(number, path)
     }
@@ -45,6 +51,10 @@ impl<W: World> World for Journaled<'_, W> {
 
     fn recall(&self, number: u64, output: &[u8]) -> Result<Reply, AllocError> {
         self.world.recall(number, output)
+    }
+
+    fn explain(&self, edge: &[u8], reason: &[u8]) {
+        self.world.explain(edge, reason);
     }
 
     fn run(

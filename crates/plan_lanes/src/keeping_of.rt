@@ -1,10 +1,10 @@
-//! Whether the journals of a world's runs are kept.
+//! What is kept of a world's runs.
 
 use crate::world::World;
 use plan_journal::Keeping;
 use std::marker::PhantomData;
 
-/// Keeps the journals of runs if a world says so.
+/// Keeps the journals of runs, and the replies of each edge, if and only if the world `W` does.
 #[derive(Drop)]
 pub(crate) struct KeepingOf<W> {
     world: PhantomData<W>,
@@ -15,5 +15,11 @@ impl<W: World> Keeping for KeepingOf<W> {
 
     fn keeps() -> bool {
         W::keeps_journal()
+    }
+
+    ghost observes = { W.observes };
+
+    fn observes() -> bool {
+        W::observes()
     }
 }

@@ -26,20 +26,27 @@ use std::thread::Threads;
 
 /// The task of a lane after it released the lock.
 enum NextTask {
-    /// To ask the questions in the batch.
+    /// Ask the questions in the batch.
     Asks,
-    /// To ask them, and then to run a command.
+    /// Ask the questions in the batch, and then run a command.
     Runs(u32, Question, Permit),
-    /// Nothing: the run has ended, or lanes stop.
+    /// Return: the run has ended, or lanes stop.
     Nothing,
 }
 
 /// The reason why no more questions were added to a batch.
 enum BatchEnd {
+    /// The batch is full.
     Full,
+    /// An edge would take a job token, but the batch has questions.
+    AskFirst,
+    /// An edge asks to run its command.
     Run(u32, Question, Permit),
+    /// Nothing can be done before a reply comes.
     Wait,
+    /// The run has ended.
     Ended,
+    /// Memory ran out.
     NoMemory,
 }
 
@@ -80,7 +87,7 @@ pub fn run_lanes<W: World + Send + Sync, R: Threads + Wait + Sync>(
     to_result(report, stopped)
 }
 
-/// Returns a report if its run has ended, and otherwise the fault for which its lanes stopped.
+/// Returns the report if its run has ended, and otherwise the reason why lanes stopped.
 pub(crate) fn to_result(report: Report, stopped: Stopped) -> Result<Report, LaneFault>
     ensures ok { IfOk result (λ r. r ≡ report) }
     ensures ended { (p : Image) → IsStateOf p report.state → IfOk result (λ r. has_ended r.state.run_state.now ≡ true) }
@@ -100,8 +107,8 @@ pub(crate) fn to_result(report: Report, stopped: Stopped) -> Result<Report, Lane
     Ok(report)
 }
 
-/// Runs what a board begins, by `count` lanes, and shows its marks if `line_progress` is there. Returns the report of the
-/// run, why its lanes stopped, and what showed the marks.
+/// Executes the run of a board by `count` lanes, and shows its marks if there is a `line_progress`. Returns the report
+/// of the run, why its lanes stopped, and the `line_progress`.
 pub(crate) fn run_named<
     J: RunBrand + Send + Sync,
     W: World + Send + Sync,
@@ -151,7 +158,7 @@ fn start_lanes<J: RunBrand + Send + Sync, W: World + Send + Sync, R: Threads + W
     })
 }
 
-/// Works until the run has ended, or lanes stop.
+/// Does the work of one lane, until the run has ended or lanes stop.
 fn lane<J: RunBrand, W: World, R: Wait>(
     rt: &R,
     alloc: Global,
@@ -220,7 +227,7 @@ fn visit<J: RunBrand, W: World, R: Wait>(
         let taken = take(rt, &mut guard, batch);
         guard.show();
         let left = match taken {
-            BatchEnd::Full => NextTask::Asks,
+            BatchEnd::Full | BatchEnd::AskFirst => NextTask::Asks,
             BatchEnd::Run(edge, question, permit) => NextTask::Runs(edge, question, permit),
             BatchEnd::Wait if batch.is_empty() => {
                 guard.add_sleeper();
@@ -294,7 +301,8 @@ fn apply_replies<J: RunBrand, W: World, R: Wait>(
 }
 
 /// Advances the run and adds its questions to the batch, until the batch is full, an edge asks to run its command, or
-/// no edge can go on without a reply.
+/// no edge can go on without a reply. No edge takes a job token while the batch has questions: their replies may end
+/// edges, whose marks should be shown before a command makes this lane wait, and let others start.
 fn take<J: RunBrand, W: World, R: Wait>(
     rt: &R,
     shared: &mut SharedRun<'_, W, J>,
@@ -305,6 +313,9 @@ fn take<J: RunBrand, W: World, R: Wait>(
     for _ in rt.forever() {
         if batch.is_full() {
             return BatchEnd::Full;
+        }
+        if !batch.is_empty() && shared.takes_next() {
+            return BatchEnd::AskFirst;
         }
         match batch.advance(shared) {
             Ok(Advance::Moved) => {}

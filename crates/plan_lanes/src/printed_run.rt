@@ -22,8 +22,8 @@ use std::marker::{Brand, Model};
 use std::sync::Wait;
 use std::thread::Threads;
 
-/// A run that is open and in which nothing was done yet, with what is to show its marks. A contract sees what it was
-/// opened with, and the feed.
+/// A run that is open and has no events yet, with the feed that gets its marks. A contract sees the arguments of its
+/// opening, and the feed.
 #[derive(Drop)]
 pub struct PrintedRun<'v, W: World> {
     alloc: Global,
@@ -52,11 +52,11 @@ impl<'v, W: World> PrintedRun<'v, W> {
     ghost use Rattle.plan_lanes.specs.Reports.{IsKeptBy, IsRunOf, IsTotalOf};
     ghost use Rattle.plan_lanes.specs.declared.fault.LaneFault.TheVariants.{Opening};
 
-    /// Opens a run of an image whose marks are to go into a feed. If there are no targets, the run is for the image's
+    /// Opens a run of an image. Its marks will go into a feed. If there are no targets, the run is for the image's
     /// defaults. The world isn't asked.
     ///
     /// # Errors
-    /// As for `Board::open`, and `Memory` if there is no memory for what shows the marks. The feed is returned.
+    /// As for `Board::open`, and `Memory` if there is no memory to show the marks. The feed is returned.
     pub fn open(
         alloc: Global,
         image: &'v Verified,
@@ -100,8 +100,9 @@ impl<W: World + Send + Sync> PrintedRun<'_, W> {
     ghost use Rattle.plan_lanes.specs.Faults.{FaultReports, report_of};
     ghost use Rattle.plan_lanes.specs.Reports.{IsKeptBy, IsRunOf};
 
-    /// Runs it like `run_lanes`, and puts each mark of the report into the feed before the lane of its event releases
-    /// the lock, or as soon as there is room for it and no console command runs. Returns the feed too, to be settled.
+    /// Executes the run like `run_lanes`. Puts each mark of the report into the feed before the lane of its event
+    /// releases the lock, or as soon as there is room for it and no console command runs. Also returns the feed, which
+    /// the caller should settle.
     ///
     /// # Errors
     /// The run so far, and why it hasn't ended.
@@ -141,12 +142,13 @@ impl<W: World + Send + Sync> PrintedRun<'_, W> {
     }
 }
 
-/// Runs an image like `run_lanes`, and puts each mark of the report into a feed before the lane of its event releases
-/// the lock, or as soon as there is room for it and no console command runs. The marks in the feed are the first ones of
-/// the report. The feed is returned in any case, to be settled. The call never waits for the reader of the feed.
+/// Runs an image like `run_lanes`. Puts each mark of the report into a feed before the lane of its event releases the
+/// lock, or as soon as there is room for it and no console command runs. The marks in the feed are the first ones of
+/// the report. The feed is returned in any case, and the caller should settle it. The call never waits for the reader
+/// of the feed.
 ///
 /// # Errors
-/// As for `run_lanes`, and `Opening` with `Memory` if there is no memory for what shows the marks.
+/// As for `run_lanes`, and `Opening` with `Memory` if there is no memory to show the marks.
 pub fn run_lanes_shown<W: World + Send + Sync, R: Threads + Wait + Sync>(
     rt: &R,
     alloc: Global,

@@ -1,4 +1,4 @@
-//! What lanes share under their lock.
+//! The state that lanes share under their lock.
 
 ghost use Rattle.std.specs.Prelude.{◌≡◌, ◌≢◌, ◌⊎◌, [], IfErr, IfOk, None, Ok, false, get_or, true};
 ghost use Rattle.plan_verify.specs.Turn.{Stat};
@@ -19,8 +19,8 @@ use plan_machine::{Refused, Reply};
 use plan_status::{LineProgress, ends_stay, marks_may_come};
 use std::marker::{Brand, Model, PhantomData};
 
-/// Names a run: what the run under a lock was opened with, and the feed that gets its marks, if there is one. Each call
-/// of `run_lanes` picks the names.
+/// Names the run under a lock by the arguments of its opening, and by the feed that gets its marks, if there is one.
+/// Each call of `run_lanes` picks the names.
 pub trait RunBrand {
     ghost use Rattle.std.specs.Prelude.{Option};
     ghost use Rattle.plan_status.specs.declared.tap.Feed.{Feed};
@@ -52,8 +52,8 @@ pub enum Stopped {
     NoLane,
 }
 
-/// What lanes share under the lock: the board of the run that `J` names, what shows its marks, why lanes stop, and how
-/// many of them sleep. A contract sees the run so far, and why lanes stop.
+/// The state that lanes share under the lock: the board of the run that `J` names, the state of showing its marks, why
+/// lanes stop, and how many of them sleep. A contract sees the run so far, and why lanes stop.
 #[derive(Drop)]
 pub struct SharedRun<'v, W: World, J: RunBrand> {
     board: Board<'v, W>,
@@ -87,7 +87,7 @@ impl<'v, W: World, J: RunBrand> SharedRun<'v, W, J> {
         }
     }
 
-    /// Shows the marks that may be reported, as far as there is room.
+    /// Puts the marks that may be reported into the feed, as far as there is room.
     pub fn show(&mut self)
         ensures { self.new ≡ self.old }
     {
@@ -97,7 +97,7 @@ impl<'v, W: World, J: RunBrand> SharedRun<'v, W, J> {
         }
     }
 
-    /// Does what can be done next without a reply.
+    /// Applies the next event that needs no reply, if there is one.
     pub fn advance(&mut self) -> Result<Advance, Refused>
         ensures goes { GoesOn self.old.run self.new.run }
         ensures ok { IfOk result (λ a. Proceeds self.old.run self.new.run a) }
@@ -107,6 +107,11 @@ impl<'v, W: World, J: RunBrand> SharedRun<'v, W, J> {
     {
         marks_may_come();
         self.board.proceed()
+    }
+
+    /// Checks whether an advance would let an edge take a job token, to run its command.
+    pub fn takes_next(&self) -> bool {
+        self.board.takes_next()
     }
 
     /// Applies a reply that the world's rule allows. If the board refuses it, lanes stop.
@@ -224,7 +229,7 @@ impl<'v, W: World, J: RunBrand> SharedRun<'v, W, J> {
         self.waiting = self.waiting.saturating_sub(1);
     }
 
-    /// Returns the board, what shows its marks, and why lanes stopped.
+    /// Returns the board, the state of showing its marks, and why lanes stopped.
     pub fn into_parts(self) -> (Board<'v, W>, Option<LineProgress>, Stopped)
         ensures { IsSharedRun J.run J.feed result.0 result.1 }
     {
@@ -237,7 +242,7 @@ impl<'v, W: World, J: RunBrand> SharedRun<'v, W, J> {
         (board, line_progress, stopped)
     }
 
-    /// Stops the lanes for a reason, if they weren't stopped before.
+    /// Stops the lanes for this reason, unless they were stopped before.
     pub fn stop(&mut self, cause: Stopped)
         ensures run { self.new.run ≡ self.old.run }
         ensures stops { cause ≢ Stopped.No → self.new.stopped ≢ Stopped.No }

@@ -13,9 +13,9 @@ use plan_verify::PathList;
 use std::alloc::Global;
 use std::marker::{Model, PhantomData};
 
-/// Stamps of paths that an edge goes through, from the path of its question on. The world allows each of them for its
-/// path, under any number. Only `ask` creates a row, nothing copies it, and a board takes it by value. So each stamp is
-/// applied at most once, to the edge for which it was asked.
+/// Stamps of paths that an edge goes through, beginning with the path of its question. The world allows each stamp for
+/// its path, under any number. Only `ask` creates a row, nothing copies a row, and a board takes it by value. So each
+/// stamp is applied at most once, to the edge that asked for it.
 #[derive(Drop)]
 pub struct StampRow<W: World> {
     edge: u32,
@@ -39,7 +39,7 @@ impl<W: World> Model for StampRow<W> {
 /// The most paths in a row. It bounds how long a command waits for the other questions of its lane.
 const MOST: u32 = 64;
 
-/// Returns the index in a list at which a row that begins at an index ends.
+/// Returns the index at which a row ends that begins at an index of a list.
 fn row_end(paths: &PathList, from: u32) -> u32
     ensures { result ≤ length paths.now }
 {
@@ -75,8 +75,8 @@ fn stamps_from<W: World>(alloc: Global, world: &W, paths: &PathList, from: u32) 
 }
 
 impl<W: World> StampRow<W> {
-    /// Asks the world for at most 64 paths of a sweep, from the one on that an edge asked for. None if that path has no
-    /// stamp, or the question isn't of a sweep.
+    /// Asks the world for the stamps of at most 64 paths of a sweep, beginning with the path that the edge asked for.
+    /// Returns None if that path has no stamp, or if the question isn't part of a sweep.
     pub fn ask(alloc: Global, world: &W, edge: u32, question: &Question) -> Option<StampRow<W>>
         ensures edge { IfSome result (λ r. r.edge ≡ edge) }
         ensures question { IfSome result (λ r. (r.number ≡ question.now.number) × (Stat (get_or r.paths r.from []) ≡ shown question.now.request)) }
@@ -138,8 +138,8 @@ impl<W: World> StampRow<W> {
         &self.stamps
     }
 
-    /// Returns the stamp at an index of the row, with a question of this number for its path. None if there are no
-    /// more.
+    /// Returns the stamp at an index of the row, with a question of this number for its path. Returns None if the row
+    /// has no more stamps.
     pub fn into_reply(self, place: usize, number: u64) -> Option<(Question, Reply)>
         ensures question { IfSome result (λ x. (x.0.number ≡ number) × (shown x.0.request ≡ Stat (get_or self.paths (self.from + place) []))) }
         ensures reply { IfSome result (λ x. (stamp : ℕ) × (slice_get self.stamps place ≡ Some stamp) × (x.1 ≡ Stamp stamp)) }

@@ -11,9 +11,9 @@ use plan_text::RowList;
 use plan_verify::PathList;
 use std::alloc::AllocError;
 
-/// What is outside. Each call replies to what an edge asked, under the number of the question: the position in the
-/// journal of the event that asked. Lanes call it from several threads at once, never under a lock. A call fails only
-/// if memory runs out: a file or a command that fails is a reply.
+/// The world outside a run. Each call returns the reply to a request of an edge. The number of the question is the
+/// position in the journal of the event that asked. Lanes call the world from several threads at once, never under a
+/// lock. A call fails only if memory runs out: the failure of a file or a command is a reply.
 pub trait World {
     ghost use Rattle.std.specs.Prelude.{ℕ, Bool, false};
     ghost use Rattle.plan_machine.specs.declared.event.reply.Reply.{Reply as Answer};
@@ -30,24 +30,36 @@ pub trait World {
     fn keeps_journal() -> bool
         ensures { result ≡ Self.keeps };
 
+    /// Permits have what their edges have observed.
+    ghost observes: { Bool } = { false };
+
+    /// Checks whether each permit to run a command has what its edge has observed. If it hasn't, a run takes no memory
+    /// for that.
+    fn observes() -> bool
+        ensures { result ≡ Self.observes };
+
     /// Returns when the file of a path was last changed.
     fn stat(&self, number: u64, path: &[u8]) -> Result<Reply, AllocError>
         ensures { IfOk result (λ r. Self.allows number (Stat path.now) r) };
 
     /// Returns when the file of a path was last changed, if the rule allows that stamp for the path under every number.
-    /// Lanes ask in this way for the paths of a sweep, one after another, before their questions have numbers. None if
-    /// a rule depends on numbers, the path has no stamp, or memory ran out: then `stat` is asked.
+    /// Lanes ask in this way for the paths of a sweep, one after another, before their questions have numbers. Returns
+    /// None if the rule depends on numbers, the path has no stamp, or memory ran out. Then lanes call `stat`.
     fn stat_ahead(&self, _path: &[u8]) -> Option<u64>
         ensures { IfSome result (λ stamp. (number : ℕ) → Self.allows number (Stat _path.now) (Stamp stamp)) }
     {
         None
     }
 
-    /// Returns what the record has for an output.
+    /// Returns the entry that the record has for an output.
     fn recall(&self, number: u64, output: &[u8]) -> Result<Reply, AllocError>
         ensures { IfOk result (λ r. Self.allows number (Recall output.now) r) };
 
-    /// Runs a command, which makes these files. May wait for the command to end.
+    /// Shows the reason why the command of an edge is going to run. Called before `run`. `edge` is the first output of
+    /// the edge. A world that shows no reasons does nothing.
+    fn explain(&self, _edge: &[u8], _reason: &[u8]) {}
+
+    /// Runs a command that makes these files. May wait until the command ends.
     fn run(
         &self,
         number: u64,
@@ -57,11 +69,12 @@ pub trait World {
     ) -> Result<Reply, AllocError>
         ensures { IfOk result (λ r. Self.allows number (Run command.now outputs.now) r) };
 
-    /// Returns the depfile of a path.
+    /// Returns the depfile at a path.
     fn read_depfile(&self, number: u64, path: &[u8]) -> Result<Reply, AllocError>
         ensures { IfOk result (λ r. Self.allows number (Deps path.now) r) };
 
-    /// Keeps an entry in the record for an output: its command, the stamp that it was made from, and its dependencies.
+    /// Keeps an entry in the record for an output: its command, its basis (the greatest stamp that the edge read), and
+    /// its dependencies.
     fn keep(
         &self,
         number: u64,

@@ -23,7 +23,7 @@ use Rattle.plan_schedule.specs.declared.schedule.picking.Pick.TheVariants as pic
 use Rattle.plan_schedule.specs.Phases.{holds, has_failed as phase_failed, has_succeeded as phase_well, phase_at}
 use Rattle.plan_schedule.specs.Counts.{holders_of}
 use Rattle.plan_schedule.specs.Scheduling.{edges_of, waits_of as waits_by}
-use Rattle.plan_schedule.specs.Picking.{IsEnabled as CanPick, StepsFirst as FirstSteps, has_room as pool_room, is_spent as spent_by, is_step as picks_step}
+use Rattle.plan_schedule.specs.Picking.{IsEnabled as CanPick, StepsFirst as FirstSteps, has_room as pool_room, is_spent as spent_by, is_start as picks_start, is_step as picks_step}
 use Rattle.plan_machine.specs.declared.event.Event.{Event}
 use Rattle.plan_machine.specs.declared.event.Event.TheVariants.{Start, Skip, Stop, Step, Reply as Hear}
 use Rattle.plan_machine.specs.declared.event.Mark.TheVariants as mark
@@ -37,7 +37,7 @@ use Rattle.plan_machine.specs.Depfile.{depfile}
 use Rattle.plan_machine.specs.Standing.{IsUnderWay, Stands}
 use Rattle.plan_machine.specs.NeverStuck.{Awaits, CanGo, is_own}
 use Rattle.plan_machine.specs.Kept.{phase_over, phase_going, phase_active, phase_of, AreKept}
-use Rattle.plan_machine.specs.Picking.{IsEnabled, StepsFirst, event_of, is_step}
+use Rattle.plan_machine.specs.Picking.{IsEnabled, StepsFirst, event_of, is_start, is_step}
 use Rattle.plan_machine.proofs.ListLemmas.{and_both, get_inside, member_contained, or_right, when_true, when_false}
 use Rattle.plan_machine.specs.TurnLaws.{TurnLaws}
 use Rattle.plan_machine.proofs.StandingLemmas.{turn_safe}
@@ -152,6 +152,13 @@ step_of (pick.Step e) h = refl
 step_of (pick.Start e) h = absurd cc
 step_of (pick.Skip e w) h = absurd cc
 step_of (pick.Stop e) h = absurd cc
+
+-- a pick that is a start is a start event
+pub start_of : (x : Pick) → picks_start x ≡ true → is_start (event_of x) ≡ true
+start_of (pick.Start e) h = refl
+start_of (pick.Step e) h = absurd cc
+start_of (pick.Skip e w) h = absurd cc
+start_of (pick.Stop e) h = absurd cc
 
 module _ (p : Parts) (g : RunState) (plan : Plan) (schedule : Schedule) (kept : AreKept p g.now plan schedule) where
   jobs : ℕ

@@ -36,3 +36,4 @@ pub mod LocalRuns
 pub mod Sweeping
 pub mod Histories
 pub mod TurnLaws
+pub mod Loads

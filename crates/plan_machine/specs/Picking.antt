@@ -1,6 +1,8 @@
 -- The events that can happen next, without a reply or by one.
 use Rattle.std.specs.Prelude.{◌≡◌, ℕ, Bool, true, false}
 use Rattle.plan_image.specs.declared.image.Parts.{Parts}
+use Rattle.plan_schedule.specs.declared.phase.Phase.{Phase}
+use Rattle.plan_schedule.specs.declared.phase.Phase.TheVariants.{AtTake}
 use Rattle.plan_schedule.specs.declared.schedule.picking.Pick.{Pick}
 use Rattle.plan_schedule.specs.declared.schedule.picking.Pick.TheVariants as pick
 use Rattle.plan_machine.specs.declared.event.Event.{Event}
@@ -26,6 +28,15 @@ event_of (pick.Step e) = Step e
 abbrev pub is_step : Event → Bool
 is_step (Step e) = true
 is_step _ = false
+
+-- the edge is about to take a job token
+abbrev pub is_at_take : Phase → Bool
+is_at_take (AtTake holding) = true
+is_at_take _ = false
+
+abbrev pub is_start : Event → Bool
+is_start (Start e) = true
+is_start _ = false
 
 -- the event is a step, if one is enabled
 abbrev pub StepsFirst : Parts → RunState → Event → Type 0

@@ -30,6 +30,7 @@ pub use laws::{
 };
 pub use plan_verify::Cause;
 pub use run::ends::same_end;
+pub use run::loads::LoadedSlot;
 pub use run::local_runs::LocalRun;
 pub use run::refused::Refused;
 pub use run::replaying::replay;

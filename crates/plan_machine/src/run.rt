@@ -1,6 +1,7 @@
 //! A run: the states of all edges, the schedule, and the events that can happen next.
 
 pub(crate) mod ends;
+pub(crate) mod loads;
 pub(crate) mod local_runs;
 pub(crate) mod machine;
 pub(crate) mod picking;

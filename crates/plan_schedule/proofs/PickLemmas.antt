@@ -189,13 +189,17 @@ no_step plan b jobs keep is are going at e on =
       ]
     ]
 
-pub none_enabled : (plan : Plan) (b : Schedule) (jobs keep : ℕ) → IsPlan plan → IsSchedule plan b → NoEdgeIn b Steppable → AtTakeStays plan b jobs keep → UnbegunStays b keep
-    → (pick : Pick) → IsEnabled plan b.phases.items jobs keep pick → ⊥
-none_enabled plan b jobs keep is are going at unbegun (Start e) on =
+-- if no edge is in the bucket of those that can start, no start is enabled
+pub no_start : (plan : Plan) (b : Schedule) (jobs keep : ℕ) → IsSchedule plan b → NoEdgeIn b Startable → (e : ℕ) → IsEnabled plan b.phases.items jobs keep (Start e) → ⊥
+no_start plan b jobs keep are bare e on =
     let lt : e < length b.buckets.bucket = subst (λ k. e < k) (sym are.kept.buckets.sized) on.0 in
     let failed_wait : failed_wait_at b.failed_wait.items e ≡ None = without_failed_wait plan b e (failed_wait_at b.failed_wait.items e) are on.0 refl on.2 in
     let waiting : slice_index b.waiting.items e ≡ 0 = are.waiting e on.0 ∙ all_well b.phases.items (waits_of plan e) on.2 in
-    unbegun.1 e lt (stands plan b e Unbegun are on.0 on.1 ∙ (ap (unbegun_row (slice_index b.waiting.items e)) failed_wait ∙ ap (λ w. unbegun_row w None) waiting))
+    bare e lt (stands plan b e Unbegun are on.0 on.1 ∙ (ap (unbegun_row (slice_index b.waiting.items e)) failed_wait ∙ ap (λ w. unbegun_row w None) waiting))
+
+pub none_enabled : (plan : Plan) (b : Schedule) (jobs keep : ℕ) → IsPlan plan → IsSchedule plan b → NoEdgeIn b Steppable → AtTakeStays plan b jobs keep → UnbegunStays b keep
+    → (pick : Pick) → IsEnabled plan b.phases.items jobs keep pick → ⊥
+none_enabled plan b jobs keep is are going at unbegun (Start e) on = no_start plan b jobs keep are unbegun.1 e on
 none_enabled plan b jobs keep is are going at unbegun (Skip e w) on =
     let lt : e < length b.buckets.bucket = subst (λ k. e < k) (sym are.kept.buckets.sized) on.0 in
     let failed_wait = some_failed_wait plan b e w (failed_wait_at b.failed_wait.items e) are on.0 refl on.2 on.3 in

@@ -41,6 +41,21 @@ is_step _ = false
 abbrev pub StepsFirst : Plan → List Phase → ℕ → ℕ → Pick → Type 0
 StepsFirst plan phases jobs keep pick = (e : ℕ) → IsEnabled plan phases jobs keep (Step e) → is_step pick ≡ true
 
+abbrev pub is_start : Pick → Bool
+is_start (Start e) = true
+is_start _ = false
+
+-- a start that is enabled, whatever the number of jobs
+abbrev pub IsEnabledStart : Plan → List Phase → ℕ → Pick → Type 0
+IsEnabledStart plan phases keep pick = (is_start pick ≡ true) × ((jobs : ℕ) → IsEnabled plan phases jobs keep pick)
+
+-- the failure limit has been reached, an edge can make a step without a job token, or no edge can start
+abbrev pub StartsWait : Plan → List Phase → ℕ → Type 0
+StartsWait plan phases keep =
+    (is_spent keep phases ≡ true)
+    ⊎ (((e : ℕ) × (h : Bool) × (e < edges_of plan) × (phase_at phases e ≡ Runnable h))
+    ⊎ ((jobs e : ℕ) → IsEnabled plan phases jobs keep (Start e) → ⊥))
+
 -- no number is in this row
 abbrev pub IsEmptyRow : List ℕ → ℕ → Type 0
 IsEmptyRow bucket s = (e : ℕ) → e < length bucket → slice_index bucket e ≢ s

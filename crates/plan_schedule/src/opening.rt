@@ -12,6 +12,7 @@ use crate::buckets::Buckets;
 use crate::numbers::{Numbers, dependents_of};
 use crate::phase::Phase;
 use crate::plan::Plan;
+use crate::ready::ReadyQueues;
 use crate::schedule::Schedule;
 use std::alloc::{AllocError, Global};
 
@@ -203,6 +204,7 @@ pub fn open(alloc: Global, plan: &Plan, wanted: &[bool]) -> Result<Schedule, All
     let pool_buckets = fill_pool_buckets(alloc, pools)?;
     let open_edges = open_count(&phases);
     let pool_holders = zeros(alloc, pools)?;
+    let ready = ReadyQueues::open(alloc, plan)?;
     Ok(Schedule {
         phases,
         waiting,
@@ -215,5 +217,6 @@ pub fn open(alloc: Global, plan: &Plan, wanted: &[bool]) -> Result<Schedule, All
             failures: 0,
             open_edges,
         },
+        ready,
     })
 }

@@ -7,6 +7,7 @@ pub(crate) mod picking;
 use crate::bucket_rules::Counts;
 use crate::buckets::Buckets;
 use crate::phase::Phase;
+use crate::ready::ReadyQueues;
 
 /// The schedule: counters of the edges of a plan, and buckets of edges by what they can do.
 #[derive(Drop)]
@@ -23,4 +24,6 @@ pub struct Schedule {
     pub pool_buckets: Buckets,
     /// The number of edges that hold a job token, failed, or have no outcome.
     pub counts: Counts,
+    /// Which edge at Take is to take a job token first.
+    pub ready: ReadyQueues,
 }

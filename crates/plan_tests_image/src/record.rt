@@ -274,7 +274,7 @@ fn added_entries_that_share_paths(rt: HostRuntime) -> Result<(), Fail> {
     Ok(())
 }
 
-/// Returns the spelling of `ENTRY`, and behind it that of the entry of an output with a basis and two paths.
+/// Returns the spelling of `ENTRY`, followed by the spelling of an entry with this output, a basis and two paths.
 fn behind_entry(
     alloc: Global,
     output: &[u8],

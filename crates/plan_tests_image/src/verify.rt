@@ -271,7 +271,7 @@ fn stack_of_65(rt: HostRuntime) -> Result<(), Fail> {
     Ok(())
 }
 
-/// Returns the verifier's verdict on two edges, the second of which loads a slot of the first.
+/// Returns the verifier's verdict on two edges. The second edge loads a slot of the first.
 fn verdict_on_two(alloc: Global, rank: u32, waits: &[u32]) -> Result<u64, VerifyFault> {
     let store = [Instr::Zero, Instr::Store(0), Instr::End];
     let load = [Instr::Load(0), Instr::Drop, Instr::End];

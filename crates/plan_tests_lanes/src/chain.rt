@@ -86,6 +86,10 @@ impl World for Failing {
         false
     }
 
+    fn observes() -> bool {
+        false
+    }
+
     fn stat(&self, _number: u64, path: &[u8]) -> Result<Reply, AllocError> {
         if self.fails() {
             return Ok(Reply::Fault);
@@ -231,8 +235,8 @@ fn fails_each<R: Threads + Wait + Sync + Abort>(rt: &R, alloc: Global, image: &V
     }
 }
 
-/// A failed call ends its edge, and no call is repeated. The test fails each of the eight calls and then none, with one
-/// lane and with four.
+/// Checks that a failed call ends its edge, and that no call is repeated. The test fails each of the eight calls and
+/// then none, with one lane and with four.
 #[test]
 fn each_call_fails_once(rt: HostRuntime) -> Result<(), Fail> {
     let Some(image) = chain(rt.alloc()) else {

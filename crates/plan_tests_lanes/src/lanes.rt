@@ -1,5 +1,9 @@
 //! Runs of small images in worlds written for tests, and calls of the public functions.
 
+ghost use Rattle.std.specs.Prelude.{ℕ};
+ghost use Rattle.plan_machine.specs.declared.event.reply.Reply.{Reply as Answer};
+ghost use Rattle.plan_verify.specs.Turn.{Request};
+
 use plan_image::{Edge, EdgeCode, Edges, Image, Instr, Parts, Sort};
 use plan_lanes::*;
 use plan_machine::{Mark, Options, Outcome, Refused, Reply};
@@ -192,6 +196,10 @@ impl<C: Clock> World for Gate<C> {
         false
     }
 
+    fn observes() -> bool {
+        false
+    }
+
     fn stat(&self, _number: u64, _path: &[u8]) -> Result<Reply, AllocError> {
         Ok(Reply::Stamp(1))
     }
@@ -274,6 +282,10 @@ impl World for Counted {
     ghost allows = { λ number request reply. ⊤ };
 
     fn keeps_journal() -> bool {
+        false
+    }
+
+    fn observes() -> bool {
         false
     }
 
@@ -423,8 +435,8 @@ fn gated_uneven<R: Threads + Wait + Sync, C: Clock + Send + Sync + Drop>(
     came_out(rt, alloc, &image, 2, &gate)
 }
 
-/// A lane that has a stamp for one edge applies it before it runs the command of the other edge. Each command waits
-/// for the other one. Both orders of the edges are tried.
+/// Checks that a lane that has a stamp for one edge applies it before it runs the command of the other edge. Each
+/// command waits for the other one. Both orders of the edges are tried.
 #[test]
 fn uneven(rt: HostRuntime) -> Result<(), Fail> {
     for looks in [0u32, 1] {
@@ -467,7 +479,7 @@ fn each_edge_once(rt: HostRuntime) -> Result<(), Fail> {
     Ok(())
 }
 
-/// Returns the verdict of this many threads on 300 edges, of which those from `bad` on take from an empty stack.
+/// Returns the verdict of this many threads on 300 edges. The edges from `bad` on take from an empty stack.
 fn verdict_by<R: Threads + Sync>(
     rt: &R,
     alloc: Global,
@@ -634,7 +646,7 @@ fn answers(alloc: Global, image: &Verified) -> Result<[Result<Mark, Refused>; 6]
     ])
 }
 
-/// A board refuses each answer that it doesn't wait for.
+/// Checks that a board refuses each answer that it doesn't wait for.
 #[test]
 fn only_what_is_awaited(rt: HostRuntime) {
     let Ok(image) = edges_of(rt.alloc(), 2, 0, 1) else {
@@ -681,7 +693,8 @@ fn by_hand(alloc: Global, image: &Verified) -> Result<(bool, bool, usize, bool, 
     Ok((told, ran, report.journal.len(), first, last))
 }
 
-/// An edge that asks for one stamp and runs a command has ten events. After them no event is enabled.
+/// Checks that an edge that asks for one stamp and runs a command has ten events, and that no event is enabled after
+/// them.
 #[test]
 fn one_edge_by_hand(rt: HostRuntime) {
     let Ok(image) = edges_of(rt.alloc(), 1, 0, 1) else {
@@ -691,6 +704,62 @@ fn one_edge_by_hand(rt: HostRuntime) {
         by_hand(rt.alloc(), &image),
         Ok((true, true, 10, true, false))
     );
+}
+
+/// Returns the number of replies that the edge of a permit observed, and that of its slots. Returns None if the permit
+/// has no observations.
+fn seen_by(permit: &Permit) -> Option<(usize, usize)> {
+    match permit.observed() {
+        Some(observed) => Some((observed.replies.len(), observed.slots.len())),
+        None => None,
+    }
+}
+
+/// Advances a board, and returns what the edge of the permit that comes has observed.
+fn seen_next<W: World>(board: &mut Board<'_, W>) -> Result<Option<(usize, usize)>, Refused> {
+    match board.advance()? {
+        Advance::Job(_edge, question, permit) => {
+            drop(question);
+            match permit {
+                Some(permit) => {
+                    let seen = seen_by(&permit);
+                    permit.spend();
+                    Ok(seen)
+                }
+                None => Ok(None),
+            }
+        }
+        Advance::Moved => Ok(None),
+        Advance::Wait => Ok(None),
+        Advance::Ended => Ok(None),
+    }
+}
+
+/// Runs an edge that asks for one stamp and then runs its command, in a world that allows all replies. Returns how much
+/// the edge has observed. Returns None if the world doesn't observe edges.
+fn seen_in<W: World>(alloc: Global, image: &Verified) -> Result<Option<(usize, usize)>, Refused>
+    requires { (number : ℕ) (request : Request) (reply : Answer) → W.allows number request reply }
+{
+    let Some(options) = Options::new(1, 0) else {
+        return Err(Refused::Memory);
+    };
+    let mut board: Board<'_, W> = Board::open(alloc, image, options, &[])?;
+    let _ = tells(&mut board, &[Told::Moved, Told::Job(0, 1, false)])?;
+    let question = look(alloc, 1, &[1, 1])?;
+    let _ = board.answer(0, question, Reply::Stamp(7))?;
+    let _ = tells(&mut board, &[Told::Moved, Told::Moved, Told::Moved])?;
+    seen_next(&mut board)
+}
+
+/// Checks that a permit has the observations of its edge if and only if the world observes edges.
+#[test]
+fn permit_has_observations(rt: HostRuntime) {
+    let Ok(image) = edges_of(rt.alloc(), 1, 0, 1) else {
+        panic!(&rt; "no image");
+    };
+    let observed = seen_in::<Observing<'_, Counted>>(rt.alloc(), &image);
+    let unobserved = seen_in::<Counted>(rt.alloc(), &image);
+    assert_eq!(rt; (observed, unobserved), (Ok(Some((1, 0))), Ok(None)));
 }
 
 /// Returns the number of the fault that a run ends with. None if it has no fault.
@@ -711,7 +780,7 @@ fn fault_of<R: Threads + Wait + Sync>(
     number
 }
 
-/// A target that the image lacks is refused, and the world isn't asked.
+/// Checks that a target that the image lacks is refused, and that the world isn't asked.
 #[test]
 fn target_outside(rt: HostRuntime) {
     let (Ok(image), Some(options)) = (edges_of(rt.alloc(), 2, 0, 0), Options::new(2, 0)) else {

@@ -188,6 +188,10 @@ impl World for Files {
         false
     }
 
+    fn observes() -> bool {
+        false
+    }
+
     fn stat(&self, _number: u64, path: &[u8]) -> Result<Reply, AllocError> {
         let number = number_of(path);
         self.count(number);
@@ -386,7 +390,7 @@ fn tells_the_same<R: Threads + Wait + Sync>(
     Ok(numbers.as_slice() == single.as_slice())
 }
 
-/// The journal of an edge is the same whether its paths are answered ahead or one by one.
+/// Checks that the journal of an edge is the same whether its paths are answered ahead or one by one.
 #[test]
 fn rows_and_single_questions(rt: HostRuntime) -> Result<(), Fail> {
     for paths in COUNTS {
@@ -402,8 +406,8 @@ fn rows_and_single_questions(rt: HostRuntime) -> Result<(), Fail> {
     Ok(())
 }
 
-/// Runs 8 edges whose depfile has 70 paths, of which path `fault` has no stamp. Returns whether all edges failed for
-/// it, and whether each path up to it was asked for once for each edge, and no later one.
+/// Runs 8 edges whose depfile has 70 paths. Path `fault` has no stamp. Returns whether all edges failed for that
+/// reason, and whether each edge asked once for each path up to `fault`, and for no later path.
 fn fails_at<R: Threads + Wait + Sync>(
     rt: &R,
     alloc: Global,
@@ -417,7 +421,7 @@ fn fails_at<R: Threads + Wait + Sync>(
     Ok((failed, world.is_asked(fault.saturating_add(1), 8)))
 }
 
-/// A path without a stamp fails its edge, and no later path is asked for.
+/// Checks that an edge fails if a path has no stamp, and that it asks for no later path.
 #[test]
 fn path_without_a_stamp(rt: HostRuntime) -> Result<(), Fail> {
     for ahead in [Ahead::None, Ahead::Most] {

@@ -59,7 +59,7 @@ fn unended_runs_differ(rt: HostRuntime) {
     assert_eq!(rt; told(rt.alloc(), &image, &begun, &begun), Ok(false));
 }
 
-/// The place of an event that is refused in the second run counts the events of the first run, too.
+/// Checks that the place of an event that is refused in the second run also counts the events of the first run.
 #[test]
 fn place_in_the_second(rt: HostRuntime) {
     let Some(image) = three(rt.alloc()) else {

@@ -62,7 +62,7 @@ fn pool_of_one(rt: HostRuntime) {
     );
 }
 
-/// A stamp is refused as the reply to an edge that asked to run its command.
+/// Checks that a stamp is refused as the reply to an edge that asked to run its command.
 #[test]
 fn wrong_replies(rt: HostRuntime) {
     let Some(image) = three(rt.alloc()) else {
@@ -349,7 +349,8 @@ fn opened_local_runs(alloc: Global, image: &Verified) -> Result<[(u32, bool); 4]
     local_runs(image, &mut state)
 }
 
-/// A local run stops after a step that asks, or before the end of the code. Its count includes the step that asks.
+/// Checks that a local run stops after a step that asks, or before the end of the code. Its count includes the step
+/// that asks.
 #[test]
 fn edge_makes_local_runs(rt: HostRuntime) {
     let code = [
@@ -379,7 +380,7 @@ fn numbers_of_refusals(rt: HostRuntime) {
     assert_eq!(rt; Refused::BadTarget.number(), 112);
 }
 
-/// An event has 24 bytes, and values, replies and marks have 16 bytes each.
+/// Checks that an event has 24 bytes, and that values, replies and marks have 16 bytes each.
 #[test]
 fn sizes(rt: HostRuntime) {
     assert_eq!(rt; std::mem::size_of::<plan_verify::Value>(), 16);
@@ -426,8 +427,8 @@ fn opened(
     Ok((outcomes, state.ended()))
 }
 
-/// The wanted edges are those that the targets need or, without targets, those that the defaults need. A target that
-/// isn't an edge is refused.
+/// Checks that the wanted edges are those that the targets need or, without targets, those that the defaults need. A
+/// target that isn't an edge is refused.
 #[test]
 fn edges_that_the_targets_need(rt: HostRuntime) {
     let waiting = SampleEdge {
@@ -520,8 +521,8 @@ fn opened_sweeps(
     sweeps(alloc, image, &mut state)
 }
 
-/// A row of stamps is taken only if it begins with the path that the edge asked for. The stamp of the last path is
-/// never taken from a row.
+/// Checks that a row of stamps is taken only if it begins with the path that the edge asked for. The stamp of the last
+/// path is never taken from a row.
 #[test]
 fn rows_of_a_sweep(rt: HostRuntime) {
     let code = [

@@ -69,6 +69,60 @@ fn place_comes_back(rt: HostRuntime) {
     assert_eq!(rt; opened_in_turn(rt.alloc(), &image), Ok(true));
 }
 
+/// Starts all edges that can start, and returns how many, with the next edge that takes its job token.
+fn first_to_take(state: &mut State, image: &Verified) -> Result<(u32, Option<Mark>), Refused>
+    requires { IsStateOf image.now state.old }
+{
+    let mut starts = 0u32;
+    for _i in 0..20usize {
+        match state.pick_start(image) {
+            Some(event) => {
+                let _ = state.apply(image, event)?;
+                starts = starts.saturating_add(1);
+            }
+            None => return Ok((starts, next_place(state, image)?)),
+        }
+    }
+    Ok((starts, None))
+}
+
+/// Like `first_to_take`, of a run of `image` with one job.
+fn opened_to_take(alloc: Global, image: &Verified) -> Result<(u32, Option<Mark>), Refused> {
+    let Some(options) = Options::new(1, 0) else {
+        return Err(Refused::Memory);
+    };
+    let mut state = State::open(alloc, image, options, &[])?;
+    first_to_take(&mut state, image)
+}
+
+/// Checks that edges start before one takes a job token. The token goes to the edge with the longest chain of edges
+/// that wait for it, and among equals to the first edge.
+#[test]
+fn long_chains_first(rt: HostRuntime) {
+    let single = SampleEdge {
+        pool: None,
+        ..RUNNING
+    };
+    let after_one = SampleEdge {
+        waits: &[1],
+        ..single
+    };
+    let Some(chain) = image_of(rt.alloc(), &[single, single, after_one, single], &[0, 2, 3]) else {
+        panic!(&rt; "no image");
+    };
+    assert_eq!(rt;
+        opened_to_take(rt.alloc(), &chain),
+        Ok((3, Some(Mark::Took(1))))
+    );
+    let Some(equal) = image_of(rt.alloc(), &[single, single, single], &[0, 1, 2]) else {
+        panic!(&rt; "no image");
+    };
+    assert_eq!(rt;
+        opened_to_take(rt.alloc(), &equal),
+        Ok((3, Some(Mark::Took(0))))
+    );
+}
+
 /// Returns the events `before`, a reply to edge 0 with a depfile that has no colon, and the events `after`.
 fn around_depfile(alloc: Global, before: &[Plain], after: &[Plain]) -> Result<Vec<Event>, Refused> {
     let mut events = events_of(alloc, before)?;

@@ -135,7 +135,7 @@ abbrev pub end_of : ℕ → List ℕ → Result (List Event) TraceFault
 end_of n [] = Ok []
 end_of n (b ∷ rest) = Err (BadTrace n)
 
--- the events in the lines from line n on, one for each line, or the first line that is no event
+-- the events in the lines from line n on, one for each line, or the first line that isn't an event
 abbrev pub events_of : ℕ → List (List ℕ) → Result (List Event) TraceFault
 events_of n [] = Ok []
 events_of n (last ∷ []) = end_of n last

@@ -64,8 +64,8 @@ fn pairs_of(alloc: Global, digits: &[u8]) -> Result<Option<Vec<u8>>, AllocError>
     Ok(Some(bytes))
 }
 
-/// Returns the bytes of a word in hexadecimal digits. A dash stands for no bytes. Returns None if the word has
-/// another form.
+/// Returns the bytes of a word in hexadecimal digits. A dash means no bytes. Returns None if the word has another
+/// form.
 pub(crate) fn bytes_of(alloc: Global, word: &[u8]) -> Result<Option<Vec<u8>>, AllocError>
     ensures { IfOk result (λ bytes. option_map (λ v. v.items) bytes ≡ defined.bytes_of word.now) }
 {

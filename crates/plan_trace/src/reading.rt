@@ -65,7 +65,7 @@ fn first_event(alloc: Global, text: &[u8]) -> Result<Option<(Event, &[u8])>, All
     }
 }
 
-/// Returns the events in lines, the first of which has this number.
+/// Returns the events in the lines of a text. The first line has this number.
 fn read_events(alloc: Global, text: &[u8], number: u64) -> Result<Vec<Event>, TraceFault>
     requires { number + length text.now < 2 ^ 64 }
     ensures { Meets TraceFault.Memory (λ events. events.items) result (defined.events_of number (parts_at 10 text.now)) }

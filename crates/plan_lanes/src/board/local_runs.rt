@@ -8,6 +8,8 @@ ghost use Rattle.plan_machine.specs.Depfile.{depfile};
 ghost use Rattle.plan_machine.specs.Requests.{asked_at};
 ghost use Rattle.plan_machine.specs.Step.{NotEnabled, step};
 ghost use Rattle.plan_lanes.specs.Boards.{IsNumbered, IsOpen, MayJournal};
+ghost use Rattle.plan_lanes.specs.declared.board.Advance.TheVariants.{Job};
+ghost use Rattle.plan_lanes.specs.Observations.{Observes};
 ghost use Rattle.plan_lanes.specs.Proceeds.{AnswersRow, AwaitsReply, HearsAndGoesOn, HearsFront, HearsRow, Permits, Proceeds};
 ghost use Rattle.plan_lanes.specs.Questions.{shown};
 ghost use Rattle.plan_lanes.specs.LocalRuns.{Follows, GoesOn, Rushes, SweepsRow};
@@ -217,16 +219,31 @@ impl<'v, W: World> Board<'v, W> {
         }
     }
 
-    /// Does what can be done next without a reply, like `advance`. If that is a local step of an edge, makes all local
-    /// steps of the edge.
+    /// Does what can be done next without a reply, like `advance`, but an edge starts before another one takes a job
+    /// token. If it is a local step of an edge, makes all local steps of the edge.
     pub(crate) fn proceed(&mut self) -> Result<Advance, Refused>
         ensures goes { GoesOn self.old self.new }
         ensures ok { IfOk result (λ a. Proceeds self.old self.new a) }
+        ensures observes { IfOk result (λ a. Observes W.observes self.new a) }
         ensures memory { IfErr result (λ r. r ≡ Refused.Memory) }
     {
+        if let Some(event) = self.state.pick_start(self.image) {
+            return self.go_on(event);
+        }
         match self.state.pick(self.image) {
             Some(Event::Step(edge)) => self.proceed_with(edge),
             _ => self.advance_one(),
+        }
+    }
+
+    /// Checks whether `proceed` would let an edge take a job token.
+    pub(crate) fn takes_next(&self) -> bool {
+        if self.state.pick_start(self.image).is_some() {
+            return false;
+        }
+        match self.state.pick(self.image) {
+            Some(Event::Step(edge)) => self.state.is_at_take(self.image, edge),
+            _ => false,
         }
     }
 
@@ -234,6 +251,7 @@ impl<'v, W: World> Board<'v, W> {
     fn proceed_with(&mut self, edge: u32) -> Result<Advance, Refused>
         ensures goes { GoesOn self.old self.new }
         ensures ok { IfOk result (λ a. Proceeds self.old self.new a) }
+        ensures observes { IfOk result (λ a. Observes W.observes self.new a) }
         ensures memory { IfErr result (λ r. r ≡ Refused.Memory) }
     {
         let local_run = self.record_local_run(edge)?;
@@ -252,9 +270,11 @@ impl<'v, W: World> Board<'v, W> {
         requires { AwaitsReply self.now edge }
         ensures awaited { IfOk result (λ x. IsOpen self.now edge x.0.number (shown x.0.request)) }
         ensures permit { IfOk result (λ x. Permits self.now.opened.parts edge (shown x.0.request) x.1) }
+        ensures observes { IfOk result (λ x. Observes W.observes self.now (Job edge x.0 x.1)) }
     {
         let question = self.open_question(edge)?;
-        let permit = permit_for(self.image, edge, &question.request);
+        let observed = self.observed_for(edge, &question.request)?;
+        let permit = permit_for(self.image, edge, &question.request, observed);
         Ok((question, permit))
     }
 }

@@ -33,7 +33,7 @@ fn concatenate(alloc: Global, first: &[u8], last: &[u8]) -> Result<Words, AllocE
 }
 
 /// Returns a copy of a slot's value. Returns None if the slot isn't set or doesn't exist.
-fn copy_slot(slots: &[Slot], slot: u32) -> Result<Option<Value>, AllocError>
+pub(crate) fn copy_slot(slots: &[Slot], slot: u32) -> Result<Option<Value>, AllocError>
     ensures { IfOk result (λ v. v ≡ filling (slice_get slots.now slot)) }
 {
     match slots.get(slot as usize) {

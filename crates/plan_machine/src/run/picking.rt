@@ -3,9 +3,9 @@
 ghost use Rattle.std.specs.Prelude.{◌≡◌, ◌⊎◌, ℕ, IfNone, IfSome, IsSome, Some, option_map, slice_get, true};
 ghost use Rattle.plan_verify.specs.Turn.{Local};
 ghost use Rattle.plan_machine.specs.Applying.{CanTurn};
-ghost use Rattle.plan_machine.specs.Kept.{AreKept, IsStateOf};
+ghost use Rattle.plan_machine.specs.Kept.{AreKept, IsStateOf, phase_in};
 ghost use Rattle.plan_machine.specs.NeverStuck.{Awaits, is_own};
-ghost use Rattle.plan_machine.specs.Picking.{IsEnabled, StepsFirst, event_of};
+ghost use Rattle.plan_machine.specs.Picking.{IsEnabled, StepsFirst, event_of, is_at_take, is_start};
 ghost use Rattle.plan_machine.specs.Requests.{Asks, AsksNothing, asked_at, asks_by, shown};
 ghost use Rattle.plan_machine.specs.State.{Active, has_ended};
 
@@ -13,7 +13,7 @@ use crate::event::{Event, Request};
 use crate::laws::turn_laws;
 use crate::run::state::State;
 use plan_image::Image;
-use plan_schedule::Pick;
+use plan_schedule::{Phase, Pick};
 use plan_verify::Verified;
 
 /// Converts a pick of the schedule to an event.
@@ -48,6 +48,34 @@ impl State {
             Some(pick) => Some(event_of(pick)),
             None => None,
         }
+    }
+
+    /// Returns the start of an edge, if no edge can make a step but those that are about to take a job token, and the
+    /// failure limit hasn't been reached. So edges can start before another one runs its command. It takes no memory and
+    /// constant time.
+    pub fn pick_start(&self, image: &Verified) -> Option<Event>
+        requires { IsStateOf image.now self.now }
+        ensures enabled { IfSome result (λ event. IsEnabled image.now self.now.run_state event) }
+        ensures own { IfSome result (λ event. is_own event ≡ true) }
+        ensures start { IfSome result (λ event. is_start event ≡ true) }
+    {
+        turn_laws();
+        let _tables = image.image();
+        let _jobs = self.machine.jobs();
+        let keep = self.machine.keep();
+        match self.schedule.pick_start(&self.plan, keep) {
+            Some(start) => Some(event_of(start)),
+            None => None,
+        }
+    }
+
+    /// Checks whether an edge is about to take a job token. Returns false if there is no such edge.
+    pub fn is_at_take(&self, image: &Verified, edge: u32) -> bool
+        requires { IsStateOf image.now self.now }
+        ensures { result ≡ is_at_take (phase_in image.now edge (slice_get self.now.run_state.now.edges edge)) }
+    {
+        let tables = image.image();
+        matches!(self.phase(tables, edge), Phase::AtTake(_))
     }
 
     /// Returns the question of an edge if and only if it awaits a reply. It takes no memory.

@@ -212,7 +212,7 @@ impl State {
     }
 
     /// Returns the phase of an edge that the schedule has.
-    fn phase(&self, _image: &Image, edge: u32) -> Phase
+    pub(crate) fn phase(&self, _image: &Image, edge: u32) -> Phase
         requires { AreKept _image.now self.now.run_state.now self.now.plan self.now.schedule }
         ensures { result ≡ phase_in _image.now edge (slice_get self.now.run_state.now.edges edge) }
     {

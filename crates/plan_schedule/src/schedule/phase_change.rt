@@ -65,6 +65,7 @@ impl Schedule {
             &plan.depths,
             pool,
         );
+        self.ready.update(pool, edge, &self.phases);
     }
 
     /// Changes the phase of an edge, but does not update the edges that wait for it.

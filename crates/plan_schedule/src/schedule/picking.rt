@@ -4,7 +4,7 @@ ghost use Rattle.std.specs.Prelude.{◌≡◌, ◌≢◌, ◌<◌, ◌≤◌, �
 ghost use Rattle.plan_schedule.specs.BucketRules.{edge_row, pool_row};
 ghost use Rattle.plan_schedule.specs.Scheduling.{IsSchedule, IsPlan, edges_of};
 ghost use Rattle.plan_schedule.specs.Phases.{phase_at};
-ghost use Rattle.plan_schedule.specs.Picking.{AtTakeStays, IsEnabled, NoEdgeIn, NoPoolIn, StepsFirst, UnbegunStays, is_spent};
+ghost use Rattle.plan_schedule.specs.Picking.{AtTakeStays, IsEnabled, IsEnabledStart, NoEdgeIn, NoPoolIn, StartsWait, StepsFirst, UnbegunStays, is_spent};
 
 use crate::bucket_rules::{EdgeBucket, PoolBucket};
 use crate::phase::Phase;
@@ -45,6 +45,24 @@ impl Schedule {
         self.buckets.top(bucket.row())
     }
 
+    /// Returns an edge of a pool that is at Take: the one that should take a job token first, if it is known. Returns
+    /// None if there is none.
+    fn first_at_take(&self, plan: &Plan, pool: u32) -> Option<u32>
+        requires plan { IsPlan plan.now }
+        requires schedule { IsSchedule plan.now self.now }
+        requires pool { pool < length plan.now.depths.items }
+        ensures some { IfSome result (λ e. (e < edges_of plan.now) × (slice_index self.now.buckets.bucket e ≡ edge_row (EdgeBucket.AtTakeOf pool))) }
+        ensures none { IfNone result (NoEdgeIn self.now (EdgeBucket.AtTakeOf pool)) }
+    {
+        let row = EdgeBucket::AtTakeOf(pool).row();
+        if let Some(edge) = self.ready.first(pool) {
+            if (edge as usize) < self.phases.len() && self.buckets.bucket(edge) == row {
+                return Some(edge);
+            }
+        }
+        self.buckets.top(row)
+    }
+
     /// Returns an edge at Take whose pool is in this bucket of pools. Returns None if the bucket is empty.
     #[inline]
     fn at_take(&self, plan: &Plan, pool_bucket: PoolBucket) -> Option<u32>
@@ -55,7 +73,7 @@ impl Schedule {
         ensures none { IfNone result (NoPoolIn self.now pool_bucket) }
     {
         match self.pool_buckets.top(pool_bucket.row()) {
-            Some(pool) => self.buckets.top(EdgeBucket::AtTakeOf(pool).row()),
+            Some(pool) => self.first_at_take(plan, pool),
             None => None,
         }
     }
@@ -117,6 +135,26 @@ impl Schedule {
                     None => None,
                 }
             }
+        }
+    }
+
+    /// Returns the start of an edge, if no edge can make a step but those at Take, and the failure limit hasn't been
+    /// reached. So edges can start before another one takes a job token.
+    pub fn pick_start(&self, plan: &Plan, keep: u32) -> Option<Pick>
+        requires plan { IsPlan plan.now }
+        requires schedule { IsSchedule plan.now self.now }
+        ensures some { IfSome result (λ pick. IsEnabledStart plan.now self.now.phases.items keep pick) }
+        ensures none { IfNone result (StartsWait plan.now self.now.phases.items keep) }
+    {
+        if self.is_spent(plan, keep) {
+            return None;
+        }
+        match self.edge_in_bucket(plan, EdgeBucket::Steppable) {
+            Some(_) => None,
+            None => match self.edge_in_bucket(plan, EdgeBucket::Startable) {
+                Some(edge) => Some(Pick::Start(edge)),
+                None => None,
+            },
         }
     }
 

@@ -1,11 +1,14 @@
-use Rattle.std.proofs.Common.{◌≡◌, ◌∙◌, ℕ, ap, length, refl, subst, sym}
+use Rattle.std.proofs.Common.{◌≡◌, ◌∙◌, ℕ, Option, ap, length, refl, subst, sym, true}
 use Rattle.plan_machine.specs.declared.event.Mark.TheVariants as mark
 use Rattle.std.specs.Prelude.{IfSome}
 use Rattle.plan_image.specs.declared.image.Parts.{Parts}
 use Rattle.plan_status.specs.Consoles.{is_console}
 use Rattle.plan_lanes.specs.Advances.{WouldAsk}
+use Rattle.plan_lanes.specs.declared.batch.OwnedRequest.{OwnedRequest}
+use Rattle.plan_lanes.specs.Observations.{observed_if}
 use Rattle.plan_lanes.specs.Progress.{Progress, run_state_of}
-use Rattle.plan_lanes.specs.Questions.{shown}
+use Rattle.plan_lanes.specs.Questions.{is_run, shown}
+use Rattle.plan_lanes.proofs.ObservedLemmas.{permit_observes, stays_observed}
 use Rattle.plan_lanes.proofs.ProceedLemmas.{applied_asks, applied_moves}
 use Rattle.plan_lanes.proofs.LocalRunLemmas.{goes_none, goes_one}
 use Rattle.plan_lanes.proofs.StepLemmas.{asks_job, asks_told}
@@ -55,3 +58,20 @@ returns-in-None-clause-goes g c = goes_one c.args.self.now c.record.new.self c.a
 
 pub returns-in-Some-clause-goes : goal.returns-in-Some-clause-goes
 returns-in-Some-clause-goes g c = goes_one c.args.self.now c.record.new.self c.args.event c.in_ok-record.field-0 c.in_ok-record.ensures.ok
+
+pub returns-in_err-observed-clause-goes : goal.returns-in_err-observed-clause-goes
+returns-in_err-observed-clause-goes g c = goes_none c.args.self.now c.args.self.now refl
+
+pub returns-in-Some-clause-observes : goal.returns-in-Some-clause-observes
+returns-in-Some-clause-observes g c =
+    let old = c.args.self.now in
+    let new = c.record.new.self in
+    let told = c.in_ok-record.field-0 in
+    let e = c.edge_of-edge.result in
+    let a = c.in-Some.request in
+    let observes = g.W.World.observes in
+    let asks = subst (WouldAsk old.opened.parts (run_state_of old) c.args.event) c.in-Some.is c.in_ok-asked.ensures in
+    let is = asks_told old.opened.parts (run_state_of old) c.args.event (shown a) new.state told asks c.in_ok-record.ensures.ok.next ∙ ap (λ (f : ℕ). mark.Asked f) (sym c.edge_of-edge.ensures) in
+    let before = subst (λ (o : Option OwnedRequest). IfSome o (λ r. is_run (shown r) ≡ true → c.in_ok-observed.observed ≡ observed_if observes old e)) c.in-Some.is c.in_ok-observed.ensures in
+    permit_observes c.permit_for-permit.result e (shown a) c.in_ok-observed.observed (observed_if observes new e) c.permit_for-permit.ensures.run c.permit_for-permit.ensures.edge c.permit_for-permit.ensures.observed
+    (λ run. before run ∙ stays_observed observes old new c.args.event told e e c.requires.own c.in_ok-record.ensures.ok is)

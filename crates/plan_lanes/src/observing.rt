@@ -1,0 +1,84 @@
+//! Worlds whose permits have what edges have observed.
+
+ghost use Rattle.std.specs.Prelude.{◌≡◌};
+
+use crate::board::Permit;
+use crate::world::World;
+use plan_machine::Reply;
+use plan_text::RowList;
+use plan_verify::PathList;
+use std::alloc::AllocError;
+
+/// Another world, in which each permit to run a command has what its edge has observed. It passes all questions on.
+#[derive(Drop)]
+pub struct Observing<'a, W> {
+    world: &'a W,
+}
+
+impl<'a, W> Observing<'a, W> {
+    /// Returns this world, in which edges are observed.
+    pub fn new(world: &'a W) -> Observing<'a, W>
+        ensures { result.world.now ≡ world.now }
+    {
+        Observing { world }
+    }
+}
+
+impl<W: World> World for Observing<'_, W> {
+    ghost use Rattle.std.specs.Prelude.{true};
+
+    ghost allows = { λ number question reply. W.allows number question reply };
+
+    ghost keeps = { W.keeps };
+
+    fn keeps_journal() -> bool {
+        W::keeps_journal()
+    }
+
+    ghost observes = { true };
+
+    fn observes() -> bool {
+        true
+    }
+
+    fn stat(&self, number: u64, path: &[u8]) -> Result<Reply, AllocError> {
+        self.world.stat(number, path)
+    }
+
+    fn stat_ahead(&self, path: &[u8]) -> Option<u64> {
+        self.world.stat_ahead(path)
+    }
+
+    fn recall(&self, number: u64, output: &[u8]) -> Result<Reply, AllocError> {
+        self.world.recall(number, output)
+    }
+
+    fn explain(&self, edge: &[u8], reason: &[u8]) {
+        self.world.explain(edge, reason);
+    }
+
+    fn run(
+        &self,
+        number: u64,
+        command: &[u8],
+        outputs: &RowList<u8>,
+        permit: Permit,
+    ) -> Result<Reply, AllocError> {
+        self.world.run(number, command, outputs, permit)
+    }
+
+    fn read_depfile(&self, number: u64, path: &[u8]) -> Result<Reply, AllocError> {
+        self.world.read_depfile(number, path)
+    }
+
+    fn keep(
+        &self,
+        number: u64,
+        output: &[u8],
+        command: &[u8],
+        basis: u64,
+        paths: &PathList,
+    ) -> Result<Reply, AllocError> {
+        self.world.keep(number, output, command, basis, paths)
+    }
+}
