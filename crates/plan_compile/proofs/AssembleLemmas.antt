@@ -14,16 +14,17 @@ use Rattle.plan_image.specs.declared.image.EdgeCode.{EdgeCode}
 use Rattle.plan_image.specs.declared.image.EdgeCode.TheVariants.{Shared}
 use Rattle.plan_verify.specs.Members.{is_member}
 use Rattle.plan_compile.specs.declared.layout.Output.{Output}
+use Rattle.plan_compile.specs.declared.layout.EdgeLayout.{EdgeLayout}
 use Rattle.plan_compile.specs.declared.layout.EdgeLayout.TheVariants as layout
 use Rattle.plan_compile.specs.declared.slot_pattern.SlotPattern.{SlotPattern}
 use Rattle.plan_compile.specs.declared.slot_pattern.SlotPattern.TheVariants.{OneFlag, OwnFlags, Gathers, Alone}
-use Rattle.plan_compile.specs.Assembling.{command_in, first_changed, layout_in, codes_in, edge_in, edges_in}
+use Rattle.plan_compile.specs.Assembling.{command_in, first_changed, layout_in, layouts_in, codes_in, edge_in, edges_in}
 use Rattle.plan_compile.specs.BodyKeys.{Body, same_body}
 use Rattle.plan_compile.specs.Builds.{Build, Builds}
 use Rattle.plan_compile.specs.EdgeNumbers.{command_numbers, numbers_by, numbers_in}
 use Rattle.plan_compile.specs.Emit.{code_of, emitted}
 use Rattle.plan_compile.specs.Faithful.{IsEdge, IsSound}
-use Rattle.plan_compile.specs.Images.{command_layout, layout_by, layout_of, codes_from, codes, used_bodies, shared, edge_by, edge_of, edges_of, image_of}
+use Rattle.plan_compile.specs.Images.{command_layout, layout_by, layout_of, layouts_from, layouts, codes_from, codes, used_bodies, shared, edge_by, edge_of, edges_of, image_of}
 use Rattle.plan_compile.specs.Refusals.{RefusesCodes, is_too_long}
 use Rattle.plan_compile.specs.declared.fault.CompileFault.{CompileFault}
 use Rattle.plan_compile.specs.declared.fault.CompileFault.TheVariants.{Limit, Memory}
@@ -196,7 +197,7 @@ module _ (t : Builds) (sound : IsSound t) where
         let outputs : outputs_in table x.outputs ≡ outputs_by form b x.outputs = outputs_are ∙ ap (λ (f : SlotPattern). outputs_by f b x.outputs) is in
         cc
 
-    layout_is : (form : SlotPattern) (newest : ℕ) → form_of x ≡ form → newest ≡ newest_by form b
+    pub layout_is : (form : SlotPattern) (newest : ℕ) → form_of x ≡ form → newest ≡ newest_by form b
         → layout_in form numbers table newest x ≡ layout_by form (all_texts t.edges) outs b x
     layout_is OneFlag newest is slot = ap (λ w. layout.Command w) (command_is OneFlag newest is (one_flag x.edge.phony x.edge.restat (has_none x.named && has_none x.order_only) is) slot)
     layout_is OwnFlags newest is slot = ap (λ w. layout.Command w) (command_is OwnFlags newest is (own_flags x.edge.phony x.edge.restat (has_none x.named && has_none x.order_only) is) slot)
@@ -236,6 +237,52 @@ codes_are t sound =
     codes_by (all_texts t.edges) (used_pools t.edges) (table_of (length t.files) (all_made zero t.edges)) (all_made zero t.edges) zero t.edges λ e x at.
     let same : zero + base t.edges e ≡ base t.edges e = omega arith in
     code_is t sound e x at (newest_by (form_of x) (zero + base t.edges e)) (ap (λ (k : ℕ). newest_by (form_of x) k) same) ∙ ap (λ (k : ℕ). code_of (layout_of (all_texts t.edges) (all_made zero t.edges) k x)) (sym same)
+
+-- ---- all layouts
+
+layouts_by : (texts pools : List Text) (table : Table) (outputs : List Output) (b : ℕ) (xs : List Build)
+    → ((j : ℕ) (x : Build) → slice_get xs j ≡ Some x
+    → layout_in (form_of x) (numbers_in texts pools x) table (newest_by (form_of x) (b + base xs j)) x ≡ layout_of texts outputs (b + base xs j) x)
+    → layouts_in table (map (numbers_in texts pools) xs) (newest_from b xs) xs ≡ layouts_from texts outputs b xs
+layouts_by texts pools table outputs b [] h = refl
+layouts_by texts pools table outputs b (x ∷ xs) h =
+    let same : b + zero ≡ b = omega arith in
+    ap (λ (w : EdgeLayout). w ∷ layouts_in table (map (numbers_in texts pools) xs) (newest_from (b + own_len x) xs) xs)
+    (ap (λ (k : ℕ). layout_in (form_of x) (numbers_in texts pools x) table (newest_by (form_of x) k) x) (sym same) ∙ h zero x refl ∙ ap (λ (k : ℕ). layout_of texts outputs k x) same)
+    ∙ ap (λ (ws : List EdgeLayout). layout_of texts outputs b x ∷ ws)
+    (layouts_by texts pools table outputs (b + own_len x) xs λ j y at.
+    let place : b + own_len x + base xs j ≡ b + (own_len x + base xs j) = omega arith in
+    ap (λ (k : ℕ). layout_in (form_of y) (numbers_in texts pools y) table (newest_by (form_of y) k) y) place ∙ h (suc j) y at ∙ ap (λ (k : ℕ). layout_of texts outputs k y) (sym place))
+
+layouts_are : (t : Builds) → IsSound t → layouts_in (table_of (length t.files) (all_made zero t.edges)) (numbers_of t) (newest_from zero t.edges) t.edges ≡ layouts t.edges
+layouts_are t sound =
+    layouts_by (all_texts t.edges) (used_pools t.edges) (table_of (length t.files) (all_made zero t.edges)) (all_made zero t.edges) zero t.edges λ e x at.
+    let same : zero + base t.edges e ≡ base t.edges e = omega arith in
+    layout_is t sound e x at (form_of x) (newest_by (form_of x) (zero + base t.edges e)) refl (ap (λ (k : ℕ). newest_by (form_of x) k) same)
+    ∙ ap (λ (k : ℕ). layout_of (all_texts t.edges) (all_made zero t.edges) k x) (sym same)
+
+pub all_layouts : (t : Builds) → IsSound t → (n : ℕ) (table : Table) (ks : List Numbers) (newest : List ℕ) → n ≡ length t.files → table ≡ table_of n (all_made zero t.edges) → ks ≡ numbers_of t
+    → newest ≡ newest_from zero t.edges → layouts_in table ks newest t.edges ≡ layouts t.edges
+all_layouts t sound n outputs ks newest hn hm hk hw =
+    ap (λ (q : Table). layouts_in q ks newest t.edges) (hm ∙ ap (λ (k : ℕ). table_of k (all_made zero t.edges)) hn)
+    ∙ ap (λ (js : List Numbers). layouts_in (table_of (length t.files) (all_made zero t.edges)) js newest t.edges) hk
+    ∙ ap (λ (ns : List ℕ). layouts_in (table_of (length t.files) (all_made zero t.edges)) (numbers_of t) ns t.edges) hw ∙ layouts_are t sound
+
+-- one more layout
+pub layouts_step : (table : Table) (ks : List Numbers) (ns : List ℕ) (xs : List Build) (n slot : ℕ) (k : Numbers) (x : Build) (w : EdgeLayout) (old new whole : List EdgeLayout)
+    → slice_get ks n ≡ Some k → slice_get ns n ≡ Some slot → slice_get xs n ≡ Some x
+    → w ≡ layout_in (form_of x) k table slot x → new ≡ old ++ w ∷ []
+    → old ++ layouts_in table (drop n ks) (drop n ns) (drop n xs) ≡ whole
+    → new ++ layouts_in table (drop (n + 1) ks) (drop (n + 1) ns) (drop (n + 1) xs) ≡ whole
+layouts_step table ks ns xs n slot k x w old new whole named at here is pushed h =
+    let rest : List EdgeLayout = layouts_in table (drop (n + 1) ks) (drop (n + 1) ns) (drop (n + 1) xs) in
+    ap (λ (ws : List EdgeLayout). ws ++ rest) pushed
+    ∙ append_assoc old (w ∷ []) rest
+    ∙ ap (λ (v : EdgeLayout). old ++ v ∷ rest) is
+    ∙ ap (λ (ys : List Build). old ++ layouts_in table (k ∷ drop (n + 1) ks) (slot ∷ drop (n + 1) ns) ys) (sym (drop_here xs n x here))
+    ∙ ap (λ (ms : List ℕ). old ++ layouts_in table (k ∷ drop (n + 1) ks) ms (drop n xs)) (sym (drop_here ns n slot at))
+    ∙ ap (λ (js : List Numbers). old ++ layouts_in table js (drop n ns) (drop n xs)) (sym (drop_here ks n k named))
+    ∙ h
 
 -- ---- all edges
 

@@ -22,6 +22,8 @@ mod OutputLemmas
 mod LayoutLemmas
 mod TableLemmas
 mod ToldLemmas
+mod FactLemmas
+mod LoadedLemmas
 mod LawLemmas
 mod OnceLemmas
 mod MemberLemmas

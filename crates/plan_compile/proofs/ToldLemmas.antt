@@ -105,7 +105,7 @@ module _ (t : Builds) (slots : Slots) where
     abbrev phony_like : List Given → List Path → Command
     phony_like named outputs = record { named = named; order_only = order_only; outputs = outputs; command = []; depfile = []; restat = false; generator = false; baseline = baseline.Outputs }
 
-    command_told : (form : SlotPattern) → x.edge.phony ≡ false
+    pub command_told : (form : SlotPattern) → x.edge.phony ≡ false
         → command_of (image_of t) slots (command_layout (all_texts t.edges) (all_made zero t.edges) form (base t.edges e) x) order_only ≡ facts t slots x
     command_told form command =
         let named = inputs_told x.named in

@@ -57,6 +57,11 @@ abbrev pub codes_in : Table → List Numbers → List ℕ → List Build → Lis
 codes_in table (k ∷ ks) (n ∷ ns) (x ∷ xs) = code_of (layout_in (form_of x) k table n x) ∷ codes_in table ks ns xs
 codes_in table _ _ _ = []
 
+-- the layouts of edges, given the numbers and the newest input's slot of each
+abbrev pub layouts_in : Table → List Numbers → List ℕ → List Build → List EdgeLayout
+layouts_in table (k ∷ ks) (n ∷ ns) (x ∷ xs) = layout_in (form_of x) k table n x ∷ layouts_in table ks ns xs
+layouts_in table _ _ _ = []
+
 -- an edge with these numbers and this code
 abbrev pub edge_in : Numbers → EdgeCode → Build → Edge
 edge_in numbers code x = record {

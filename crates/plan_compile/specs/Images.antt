@@ -72,6 +72,15 @@ codes_from texts outputs b (x ∷ xs) = code_of (layout_of texts outputs b x) �
 abbrev pub codes : List Build → List (List Instr)
 codes xs = codes_from (all_texts xs) (all_made zero xs) zero xs
 
+-- the layouts of these edges, if the own slots of the first one begin at b
+abbrev pub layouts_from : List Text → List Output → ℕ → List Build → List EdgeLayout
+layouts_from texts outputs b [] = []
+layouts_from texts outputs b (x ∷ xs) = layout_of texts outputs b x ∷ layouts_from texts outputs (b + own_len x) xs
+
+-- the layout of each edge
+abbrev pub layouts : List Build → List EdgeLayout
+layouts xs = layouts_from (all_texts xs) (all_made zero xs) zero xs
+
 -- ---- bodies that edges share
 
 -- the bodies without repetitions, in the order of first use

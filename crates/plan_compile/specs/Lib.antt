@@ -16,6 +16,7 @@ pub mod Faithful
 pub mod OutputTable
 pub mod Assembling
 pub mod Told
+pub mod Loaded
 pub mod Faults
 pub mod Refusals
 pub mod PoolDepths

@@ -1,18 +1,20 @@
 -- The facts of a manifest's edge that the rule is applied to, and the laws about the edge's code.
-use Rattle.std.specs.Prelude.{ℕ, zero, Bool, true, false, List, map, Option, Some, None, slice_get}
+use Rattle.std.specs.Prelude.{◌≡◌, ℕ, zero, Bool, true, false, List, map, Option, Some, None, slice_get}
 use Rattle.plan_verify.specs.Turn.{Slots, Meaning, Request, Reply}
 use Rattle.plan_verify.specs.Alone.{Alone, at_begin, RunsAlone}
 use Rattle.plan_verify.specs.Sound.{AreTyped, AreLentSet}
 use Rattle.plan_verify.specs.WellShaped.{IsWellShaped}
+use Rattle.plan_compile.specs.declared.layout.CommandLayout.{CommandLayout}
+use Rattle.plan_compile.specs.declared.layout.EdgeLayout.TheVariants as layout
 use Rattle.plan_compile.specs.declared.layout.Output.{Output}
 use Rattle.plan_compile.specs.InteractionTree.{InteractionTree, Obeys, Follows}
 use Rattle.plan_compile.specs.Rule.{Path, Given, SourceFile, Command, does, does_phony}
 use Rattle.plan_compile.specs.Rule.{Made as MadeBy}
-use Rattle.plan_compile.specs.Means.{text_in, stamp_at, flag_at, Leaves, IsLaidOut}
+use Rattle.plan_compile.specs.Means.{text_in, stamp_at, flag_at, command_of, AreGiven, Leaves, IsLaidOut}
 use Rattle.plan_compile.specs.Builds.{Build, Builds}
 use Rattle.plan_compile.specs.Slots.{base, made, all_made, find}
 use Rattle.plan_compile.specs.Names.{all_texts}
-use Rattle.plan_compile.specs.Images.{layout_of, image_of}
+use Rattle.plan_compile.specs.Images.{layout_of, layouts, image_of}
 use Rattle.plan_compile.specs.Faithful.{IsEdge, IsSound}
 
 -- the path of a file
@@ -60,6 +62,15 @@ ImageKeepsToRule =
     → (meaning : Meaning) (slots : Slots) → AreTyped (image_of t) slots → AreLentSet (image_of t) e slots
     → (n : ℕ) (told : List (Request × Reply)) (y : Alone) → RunsAlone meaning (image_of t) e n (at_begin slots) told y
     → (rest : InteractionTree) × Follows (edge_does x.edge.phony meaning (facts t slots x)) told rest × Obeys meaning (image_of t) e (Leaves (made (base t.edges e) x)) y rest
+
+-- The layout of an edge with a command means the facts of the manifest's edge, and the order-only inputs as
+-- given are those that the edge asks for. The layout has its place among all layouts.
+abbrev pub LayoutsAreFacts : Type 0
+LayoutsAreFacts =
+    (t : Builds) → (e : ℕ) (x : Build) → IsEdge t e x → (w : CommandLayout) → slice_get (layouts t.edges) e ≡ Some (layout.Command w)
+    → (slots : Slots)
+    → (x.edge.phony ≡ false) × (command_of (image_of t) slots w (map (told t slots) x.order_only) ≡ facts t slots x) × AreGiven (image_of t) slots (map (told t slots) x.order_only) (layout.Command w)
+    × (layout.Command w ≡ layout_of (all_texts t.edges) (all_made zero t.edges) (base t.edges e) x)
 
 -- The numbers of each edge are right in the image: the slots of its outputs are its own, and those of a named
 -- input that another edge produces belong to an edge that is waited for.

@@ -55,13 +55,13 @@ fn paths<'a>(alloc: Global, files: &Files<'a>) -> Result<RowList<u8>, AllocError
 
 /// The edges of an image, with the numbers of their texts and pools.
 #[derive(Drop)]
-struct Named<'a> {
-    builds: Vec<Build<'a>>,
-    names: Names<'a>,
+pub(crate) struct Named<'a> {
+    pub(crate) builds: Vec<Build<'a>>,
+    pub(crate) names: Names<'a>,
 }
 
 /// Numbers the edges, texts and pools of a manifest.
-fn name_all<'a, 'b>(
+pub(crate) fn name_all<'a, 'b>(
     alloc: Global,
     manifest: &'a Manifest,
     graph: &'a Graph<'b>,

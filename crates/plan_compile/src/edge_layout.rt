@@ -134,6 +134,27 @@ fn layout<'a>(
     }
 }
 
+/// Returns the layout of an edge.
+pub(crate) fn layout_of<'a>(
+    alloc: Global,
+    numbers: Numbers,
+    table: &[Option<Output>],
+    newest: u32,
+    build: &Build<'a>,
+) -> Result<EdgeLayout, AllocError>
+    ensures { IfOk result (λ w. w ≡ layout_in (form_meant build.now) numbers table.now newest build.now) }
+{
+    layout(
+        alloc,
+        Lists::new(alloc),
+        numbers,
+        table,
+        newest,
+        form_of(build),
+        build,
+    )
+}
+
 /// Generates the code of an edge into a buffer. The given lists are overwritten, used for its layout, and
 /// returned.
 pub(crate) fn put_code<'a>(

@@ -70,7 +70,7 @@ fn push_edge<'a>(
 }
 
 /// Returns the numbers of edge `number`.
-fn numbers_at(numbers: &[Numbers], number: usize) -> Numbers
+pub(crate) fn numbers_at(numbers: &[Numbers], number: usize) -> Numbers
     requires { number < length numbers.now }
     ensures { slice_get numbers.now number ≡ Some result }
 {

@@ -1,7 +1,8 @@
 //! Laws about the images of all manifests.
 ghost use Rattle.plan_compile.specs.Faithful.{ImageIsFaithful, ManifestsAreSound, OneAssignment};
 ghost use Rattle.plan_compile.specs.Refusals.{ImageIsSpelled};
-ghost use Rattle.plan_compile.specs.Told.{ImageIsShaped, ImageIsLaidOut, ImageKeepsToRule, ImageMeans};
+ghost use Rattle.plan_compile.specs.Told.{ImageIsShaped, ImageIsLaidOut, ImageKeepsToRule, ImageMeans, LayoutsAreFacts};
+ghost use Rattle.plan_compile.specs.Loaded.{InputsAreLoaded};
 
 use crate::laws::{command_means, command_shaped, phony_means, phony_shaped};
 use plan_graph::{defaults_ascend, files_complete, producers_waited, ranks_rise, waits_ascend};
@@ -39,6 +40,20 @@ pub fn image_means()
     split_law();
     command_means();
     phony_means();
+}
+
+/// States that the layout of an edge with a command means, in the image, the facts of the manifest's edge that
+/// the out-of-date rule is applied to.
+pub fn layouts_are_facts()
+    ensures { LayoutsAreFacts }
+{}
+
+/// States that the code of an edge with a command loads the stamp and the flag of each named input that another edge
+/// makes.
+pub fn inputs_are_loaded()
+    ensures { InputsAreLoaded }
+{
+    split_law();
 }
 
 /// States that the replies of an edge that ran by itself follow the out-of-date rule, applied to the facts of

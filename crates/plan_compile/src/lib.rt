@@ -4,7 +4,8 @@
 //! - `compile` returns the image of a manifest with its graph, or a `CompileFault`.
 //! - `EdgeLayout` is an edge by its numbers in an image's tables. It has one variant for each sort of edge:
 //!   `CommandLayout`, `GatherLayout`, or the outputs of a phony without inputs. `Input` and `Output` are its
-//!   inputs and outputs.
+//!   inputs and outputs. `layouts` returns the layouts of the edges of a manifest, and by law
+//!   `layouts_are_facts` the layout of an edge with a command means the facts that the rule is applied to.
 //! - `OutOfDateRule` is the rule that an image is compiled for, and `Baseline` is the baseline of an edge under
 //!   it.
 //! - `edge_code` returns the code of an edge, or a `CompileFault`.
@@ -18,6 +19,7 @@
 //! docs/rules/out-of-date.md lists the rules.
 #![tactic(auto)]
 
+mod all_layouts;
 mod baseline;
 mod bodies;
 mod body_table;
@@ -44,13 +46,14 @@ mod slot_pattern;
 mod slots;
 mod text_key;
 
+pub use all_layouts::layouts;
 pub use baseline::{Baseline, OutOfDateRule};
 pub use compiling::compile;
 pub use emitting::edge_code;
 pub use fault::CompileFault;
 pub use image_laws::{
     image_is_faithful, image_is_laid_out, image_is_shaped, image_is_spelled, image_keeps_to_rule,
-    image_means, manifests_are_sound, one_assignment,
+    image_means, inputs_are_loaded, layouts_are_facts, manifests_are_sound, one_assignment,
 };
 pub use laws::{
     changes_are_seen, command_means, command_shaped, phony_means, phony_shaped, runs_keep_to_rule,

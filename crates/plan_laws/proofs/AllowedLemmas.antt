@@ -38,7 +38,7 @@ use Rattle.plan_machine.specs.declared.event.Mark.TheVariants as mark
 use Rattle.plan_machine.specs.declared.event.Outcome.TheVariants.{Failed, Skipped, Stopped}
 use Rattle.plan_machine.specs.declared.event.reply.Reply.{Reply}
 use Rattle.plan_lanes.specs.Journals.{Rule, IsLastOf, IsAllowed}
-use Rattle.plan_laws.specs.Ends.{Exchange}
+use Rattle.plan_reasons.specs.Observing.{Exchange}
 use Rattle.plan_laws.specs.Right.{AreReplies}
 use Rattle.plan_laws.proofs.SlotLemmas.{rule_same}
 
@@ -300,7 +300,7 @@ hearing : (meaning : Meaning) (p : Parts) (limits : Limits) (s : State) (e : ℕ
 unfolding step
 hearing meaning p limits s e r mid told is = awaits meaning p s e (answer_of r) mid told (slice_get s.edges e) is
 
--- who lends a slot
+-- the wait that owns a borrowed slot
 lender : (p : Parts) (e k : ℕ) → is_lent p e k ≡ true → (w : ℕ) × (is_member w (waits_of p e) ≡ true) × (owns p w k ≡ true)
 lender p e k on = by (slice_get p.slots k) on
   where

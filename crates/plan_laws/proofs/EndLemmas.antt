@@ -6,7 +6,8 @@ use Rattle.plan_verify.specs.declared.value.Cause.{Cause}
 use Rattle.plan_verify.specs.Turn.{Meaning, Request, Stat, Recall, Run, Deps, Keep, Reply as Answer, StampIs, Entry, Nothing, Exit, Signal, NotStarted, Bytes, Kept, Fault}
 use Rattle.plan_compile.specs.InteractionTree.{Left, InteractionTree, Ask, Over, Fail, Follows}
 use Rattle.plan_compile.specs.Rule.{Path, Given, SourceFile, Made, Command, Recorded, needed, stamped, recalled, exited, told_paths, read, kept, inputs, stamps, asked, greatest, is_dirty, paths_in, name, unchanged, changed, depfile, runs, does, has_none, alone, gathers, some_changed}
-use Rattle.plan_laws.specs.Ends.{Exchange, file_exchanges, input_exchanges, AreStamps, Observations, entry_reply, Observes, is_dirty_by, GivesPaths, ReadsDepfile, RunsNothing, Succeeds, EndsArePlain}
+use Rattle.plan_reasons.specs.Observing.{Exchange, file_exchanges, input_exchanges, AreStamps, Observations, entry_reply, Observes, is_dirty_by}
+use Rattle.plan_laws.specs.Ends.{GivesPaths, ReadsDepfile, RunsNothing, Succeeds, EndsArePlain}
 
 -- ---- ends
 

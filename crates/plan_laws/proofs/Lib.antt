@@ -6,4 +6,4 @@ mod BegunLemmas
 mod AllowedLemmas
 mod RightLemmas
 mod OwnRunLemmas
-mod ReasonLemmas
+mod ExplainLemmas

@@ -3,7 +3,8 @@ use Rattle.std.proofs.Common.{◌≡◌, ℕ, Bool, true, false, List, [], ◌�
 use Rattle.plan_verify.specs.Turn.{Meaning, Stat, Recall, Run, Deps, Keep, Kept, Exit}
 use Rattle.plan_compile.specs.InteractionTree.{Left}
 use Rattle.plan_compile.specs.Rule.{Path, Given, SourceFile, Made, Command, asked, greatest, paths_in, name}
-use Rattle.plan_laws.specs.Ends.{Exchange, file_exchanges, input_exchanges, Observations, entry_reply, Observes, CommandSucceeded, ReadsDepfile, RunsNothing, commands_in, runs_of, CommandsRunOnce}
+use Rattle.plan_reasons.specs.Observing.{Exchange, file_exchanges, input_exchanges, Observations, entry_reply, Observes}
+use Rattle.plan_laws.specs.Ends.{CommandSucceeded, ReadsDepfile, RunsNothing, commands_in, runs_of, CommandsRunOnce}
 
 commands_both : (a b : List Exchange) → commands_in (a ++ b) ≡ commands_in a ++ commands_in b
 commands_both [] b = refl

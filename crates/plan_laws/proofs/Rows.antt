@@ -6,18 +6,17 @@ use Rattle.plan_image.specs.declared.image.Parts.{Parts}
 use Rattle.plan_verify.specs.Members.{is_member}
 use Rattle.plan_verify.specs.Tables.{waits_of}
 use Rattle.plan_verify.specs.Turn.{Meaning, Stat, Recall, Run, Keep, StampIs, Entry, Nothing, Exit, Kept}
-use Rattle.plan_compile.specs.declared.baseline.OutOfDateRule.TheVariants.{Specified, Stricter}
+use Rattle.plan_compile.specs.declared.baseline.OutOfDateRule.TheVariants.{Specified}
 use Rattle.plan_compile.specs.InteractionTree.{Left, Over, Follows}
 use Rattle.plan_compile.specs.Rule.{Path, SourceFile, Command, Recorded, baseline_by, paths_in, is_dirty}
-use Rattle.plan_compile.specs.Stricter.{by_rule}
 use Rattle.plan_compile.specs.Told.{edge_does}
 use Rattle.plan_machine.specs.declared.event.Mark.{Mark}
 use Rattle.plan_machine.specs.declared.event.Mark.TheVariants.{Started, Ended}
 use Rattle.plan_machine.specs.declared.event.reply.Reply.TheVariants as reply
 use Rattle.plan_lanes.specs.Journals.{Rule}
-use Rattle.plan_laws.specs.Ends.{Exchange, AreStamps, file_exchanges, input_exchanges, entry_reply, Observations, WasClean, CommandSucceeded, Succeeds, commands_in}
+use Rattle.plan_reasons.specs.Observing.{Exchange, AreStamps, file_exchanges, input_exchanges, entry_reply, Observations}
+use Rattle.plan_laws.specs.Ends.{WasClean, CommandSucceeded, Succeeds, commands_in}
 use Rattle.plan_laws.specs.Manifests.{AreOwnRuns}
-use Rattle.plan_laws.specs.Reasons.{OutputMissing, NeverBuilt, OtherCommand, PathMissing, Newer, first_reason}
 use Rattle.plan_laws.specs.Right.{AreReplies, BeganInOrder}
 use Rattle.plan_laws.proofs.OnceLemmas.{commands_run_once}
 
@@ -161,30 +160,6 @@ pub missing_output_row : (left : Left) → WasClean edge dirty left → ⊥
 missing_output_row left w =
     let o = w.observations in
     not_clean o.order_only o.named o.outputs o.recorded o.entry w.observes.order_only w.observes.named w.observes.outputs w.observes.recorded w.observes.is w.clean
-
--- ---- reasons
-
-pub never_built_row : first_reason edge (5 ∷ []) (7 ∷ []) None [] ≡ Some NeverBuilt
-never_built_row = refl
-
-pub missing_row : first_reason edge (5 ∷ []) (0 ∷ []) None [] ≡ Some (OutputMissing 0)
-missing_row = refl
-
-pub newer_row : first_reason edge (9 ∷ []) (7 ∷ []) (Some entry) [] ≡ Some (Newer 0 7)
-newer_row = refl
-
--- an input that is later than the basis is a reason by the stricter rule only, if the output is later still
-pub touched_row : (first_reason (by_rule Stricter edge) (8 ∷ []) (9 ∷ []) (Some entry) [] ≡ Some (Newer 0 5)) × (first_reason (by_rule Specified edge) (8 ∷ []) (9 ∷ []) (Some entry) [] ≡ None)
-touched_row = (refl, refl)
-
-pub other_command_row : first_reason edge (5 ∷ []) (7 ∷ []) (Some (record { command = a; basis = 5; paths = [] })) [] ≡ Some (OtherCommand a)
-other_command_row = refl
-
-pub path_missing_row : first_reason edge (5 ∷ []) (7 ∷ []) (Some (record { command = c; basis = 5; paths = b ∷ a ∷ [] })) (3 ∷ 0 ∷ []) ≡ Some (PathMissing 1)
-path_missing_row = refl
-
-pub no_reason_row : first_reason edge (5 ∷ []) (7 ∷ []) (Some entry) [] ≡ None
-no_reason_row = refl
 
 -- ---- runs
 

@@ -1,4 +1,4 @@
 pub mod Ends
 pub mod Right
 pub mod Manifests
-pub mod Reasons
+pub mod Explained

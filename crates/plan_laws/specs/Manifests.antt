@@ -1,4 +1,4 @@
--- What a run of a manifest's image has to do with the manifest.
+-- How a run of a manifest's image relates to the manifest.
 use Rattle.std.specs.Prelude.{◌≡◌, ℕ, Bool, true, List, [], ◌∷◌, map, Some, slice_get}
 use Rattle.plan_scope.specs.Sound.{IsSound}
 use Rattle.plan_scope.specs.declared.manifest.Manifest.{Manifest}
@@ -28,7 +28,7 @@ use Rattle.plan_lanes.specs.Reports.{IsRunOf}
 use Rattle.plan_lanes.specs.declared.board.Report.{Report}
 
 -- The conversation of an edge, with the replies that it got in a run, follows the out-of-date rule of that edge of the
--- manifest, from what its waits left. The edge then keeps to the rest of the rule.
+-- manifest, from the stamps and flags that its waits left. The edge then keeps to the rest of the rule.
 pub record KeepsToRule (rule : OutOfDateRule) (m : Manifest) (g : Graph) (s : State) (e : ℕ) (x : Build) (replies : List Reply) (stage : Stage) : Type 0 where
   pub slots : Slots
   pub lent : (k : ℕ) → is_lent (compiled rule m g) e k ≡ true → slice_get slots k ≡ slice_get s.slots k
@@ -40,8 +40,8 @@ pub record KeepsToRule (rule : OutOfDateRule) (m : Manifest) (g : Graph) (s : St
   pub own : (k : ℕ) → owns (compiled rule m g) e k ≡ true → slice_get end k ≡ slice_get s.slots k
   pub keeps : Obeys depfile (compiled rule m g) e (Leaves (made (base (builds rule m g).edges e) x)) (record { stage = stage; slots = end }) rest
 
--- Each edge that began does so, in each run of an image that was compiled for that rule, with any replies that the world's
--- rule allows.
+-- This holds for each edge that began, in each run of an image that was compiled for that rule, with any replies that
+-- the world's rule allows.
 abbrev pub RunsKeepToManifest : Rule → Type 0
 RunsKeepToManifest allows =
     (rule : OutOfDateRule) (m : Manifest) (g : Graph) → IsSound m → IsGraph m g → (limits : Limits) (targets : List ℕ) (r : Report)
@@ -51,7 +51,7 @@ RunsKeepToManifest allows =
 
 -- ---- which commands run
 
--- a question to run a command is to run this edge's own, for its outputs
+-- each question to run a command asks for this edge's own command, for its outputs
 abbrev pub IsOwnRun : Command → Request → Type 0
 IsOwnRun c (Run command outputs) = (command ≡ c.command) × (outputs ≡ c.outputs)
 IsOwnRun c q = Unit {0}
@@ -60,7 +60,7 @@ abbrev pub AreOwnRuns : Command → List (Request × Answer) → Type 0
 AreOwnRuns c [] = Unit {0}
 AreOwnRuns c (x ∷ xs) = IsOwnRun c x.0 × AreOwnRuns c xs
 
--- Whatever is replied, a conversation that follows the rule of an edge runs nothing else.
+-- Whatever the replies are, a conversation that follows the rule of an edge runs nothing else.
 abbrev pub NothingElseRuns : Type 0
 NothingElseRuns =
     (phony : Bool) (meaning : Meaning) (c : Command) (conversation : List (Request × Answer)) (rest : InteractionTree)

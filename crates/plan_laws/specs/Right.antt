@@ -1,4 +1,4 @@
--- What a run in which all that was wanted succeeded means for the edges of the manifest.
+-- The meaning of a run in which all wanted edges succeeded for the edges of the manifest.
 use Rattle.std.specs.Prelude.{◌≡◌, ◌<◌, ℕ, Bool, true, List, [], ◌∷◌, Some, slice_get}
 use Rattle.plan_image.specs.declared.image.Parts.{Parts}
 use Rattle.plan_scope.specs.Sound.{IsSound}
@@ -28,7 +28,8 @@ use Rattle.plan_status.specs.Outcomes.{all_done}
 use Rattle.plan_lanes.specs.Journals.{Rule}
 use Rattle.plan_lanes.specs.Reports.{IsRunOf}
 use Rattle.plan_lanes.specs.declared.board.Report.{Report}
-use Rattle.plan_laws.specs.Ends.{Exchange, Succeeds}
+use Rattle.plan_reasons.specs.Observing.{Exchange}
+use Rattle.plan_laws.specs.Ends.{Succeeds}
 
 -- ---- an edge
 
@@ -39,8 +40,8 @@ AreReplies allows (r ∷ replies) (x ∷ conversation) = (x.1 ≡ answer_of r) �
 AreReplies allows _ _ = ⊥
 
 -- The conversation of an edge, with the replies that the edge got in this run, follows its rule to the end. The rule is
--- that of the manifest, with the stamps and flags that the edge's waits left. The world's rule allows each reply for its
--- question. So the edge was clean, or its own command ran to exit status 0. The edge left what the rule says.
+-- that of the manifest, with the stamps and flags that the edge's waits left. The world's rule allows each reply for
+-- its question. So the edge was clean, or its own command ran to exit status 0. The edge left what the rule says.
 pub record IsRight (allows : Rule) (rule : OutOfDateRule) (m : Manifest) (g : Graph) (s : State) (e : ℕ) (x : Build) (replies : List Reply) (ran : Bool) : Type 0 where
   pub conversation : List Exchange
   pub answered : AreReplies allows replies conversation
@@ -59,7 +60,7 @@ FinishedEdgesAreRight allows =
 
 -- ---- a run
 
--- By the marks of a run, the edge began, and after everything that it waits for had succeeded.
+-- By the marks of a run, the edge began after everything that it waits for had succeeded.
 pub record BeganInOrder (p : Parts) (marks : List Mark) (e : ℕ) : Type 0 where
   pub position : ℕ
   pub began : slice_get marks position ≡ Some (Started e)
@@ -78,7 +79,7 @@ pub record IsBuilt (allows : Rule) (rule : OutOfDateRule) (m : Manifest) (g : Gr
 abbrev pub AllIsBuilt : Rule → OutOfDateRule → Manifest → Graph → List ℕ → Report → List Mark → Type 0
 AllIsBuilt allows rule m g targets r marks = (e : ℕ) → IsWanted (compiled rule m g) targets e → IsBuilt allows rule m g r marks e
 
--- If all that was wanted succeeded in a run of a manifest's image, all of it is built.
+-- If all wanted edges succeeded in a run of a manifest's image, all of them are built.
 abbrev pub FinishedRunsAreRight : Rule → Type 0
 FinishedRunsAreRight allows =
     (rule : OutOfDateRule) (m : Manifest) (g : Graph) → IsSound m → IsGraph m g → (limits : Limits) (targets : List ℕ) (r : Report)

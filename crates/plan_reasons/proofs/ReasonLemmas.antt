@@ -1,9 +1,12 @@
 -- There is a reason exactly if an edge is dirty.
-use Rattle.std.proofs.Common.{◌≡◌, ℕ, suc, ◌==◌, Bool, true, false, List, [], ◌∷◌, ◌++◌, Option, Some, None, refl, sym, ap, ◌∙◌, arith}
+use Rattle.std.proofs.Common.{◌≡◌, ℕ, suc, ◌==◌, Bool, true, false, List, [], ◌∷◌, ◌++◌, map, Option, Some, None, refl, sym, ap, ◌∙◌, arith}
 use Rattle.std.specs.Prelude.{not, ◌||◌, ◌&&◌, is_some, option_map, nat_lt, nat_le, if◌then◌else◌}
 use Rattle.plan_verify.specs.Turn.{later}
 use Rattle.plan_compile.specs.Rule.{Given, SourceFile, Made, Command, Recorded, is_dirty, is_new, baseline, greatest, greatest_from, some_missing, some_changed}
-use Rattle.plan_laws.specs.Reasons.{Reason, OutputMissing, InputChanged, PathMissing, Newer, first_at, first_changed, or_else, entry_reason, is_missing, first_reason}
+use Rattle.plan_reasons.specs.declared.reason.Reason.{Reason}
+use Rattle.plan_reasons.specs.declared.reason.Reason.TheVariants.{OutputMissing, InputChanged, Newer}
+use Rattle.plan_reasons.specs.Facts.{named_input, facts_of}
+use Rattle.plan_reasons.specs.Reasons.{first_at, first_changed, or_else, entry_reason, path_reason, is_missing, command_reason, newer_reason, first_reason}
 
 one_more : (b : Bool) (n : ℕ) (o : Option ℕ) (m : Bool) → is_some o ≡ m → is_some (if b then Some n else o) ≡ (b || m)
 one_more true n o m h = refl
@@ -13,7 +16,7 @@ found_missing : (n : ℕ) (ts : List ℕ) → is_some (first_at is_missing n ts)
 found_missing n [] = refl
 found_missing n (t ∷ ts) = one_more (t == 0) n (first_at is_missing (suc n) ts) (some_missing ts) (found_missing (suc n) ts)
 
-found_changed : (n : ℕ) (is : List Given) → is_some (first_changed n is) ≡ some_changed is
+found_changed : (n : ℕ) (is : List Given) → is_some (first_changed n (map named_input is)) ≡ some_changed is
 found_changed n [] = refl
 found_changed n (SourceFile f path ∷ others) = found_changed (suc n) others
 found_changed n (Made t true ∷ others) = refl
@@ -80,9 +83,9 @@ regroup false false false false e = refl
 pub reasons_are_causes : (c : Command) (named old : List ℕ) (entry : Option Recorded) (swept : List ℕ) → is_some (first_reason c named old entry swept) ≡ is_dirty c named old entry swept
 reasons_are_causes c named old entry swept =
     let b = baseline c.baseline old entry in
-    let newer = either (option_map PathMissing (first_at is_missing 0 swept)) (option_map (λ n. Newer n b) (first_at (nat_lt b) 0 (named ++ swept)))
-    ∙ or_same _ _ _ _ (mapped PathMissing (first_at is_missing 0 swept) ∙ found_missing 0 swept) (mapped (λ n. Newer n b) (first_at (nat_lt b) 0 (named ++ swept)) ∙ found_newer b 0 (named ++ swept)) in
-    let new = either (if not c.generator && is_new c.command entry then Some (entry_reason entry) else None) _ ∙ or_same _ _ _ _ (chosen (not c.generator && is_new c.command entry) (entry_reason entry)) newer in
-    let change = either (option_map InputChanged (first_changed 0 c.named)) _ ∙ or_same _ _ _ _ (mapped InputChanged (first_changed 0 c.named) ∙ found_changed 0 c.named) new in
+    let newer = either (option_map (path_reason entry) (first_at is_missing 0 swept)) (newer_reason b (named ++ swept))
+    ∙ or_same _ _ _ _ (mapped (path_reason entry) (first_at is_missing 0 swept) ∙ found_missing 0 swept) (mapped (λ n. Newer n b) (first_at (nat_lt b) 0 (named ++ swept)) ∙ found_newer b 0 (named ++ swept)) in
+    let new = either (command_reason (facts_of c) entry) _ ∙ or_same _ _ _ _ (chosen (not c.generator && is_new c.command entry) (entry_reason entry)) newer in
+    let change = either (option_map InputChanged (first_changed 0 (map named_input c.named))) _ ∙ or_same _ _ _ _ (mapped InputChanged (first_changed 0 (map named_input c.named)) ∙ found_changed 0 c.named) new in
     either (option_map OutputMissing (first_at is_missing 0 old)) _ ∙ or_same _ _ _ _ (mapped OutputMissing (first_at is_missing 0 old) ∙ found_missing 0 old) change
     ∙ regroup (some_missing old) (some_changed c.named) (not c.generator && is_new c.command entry) (some_missing swept) (nat_lt b (greatest (named ++ swept)))

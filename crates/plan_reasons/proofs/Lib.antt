@@ -1,0 +1,7 @@
+mod Rows
+mod FindLemmas
+mod ReasonLemmas
+mod HoldLemmas
+mod ReplyLemmas
+mod RunLemmas
+mod LentLemmas
