@@ -9,15 +9,19 @@ use Rattle.plan_verify.specs.declared.value.Cause.TheVariants.{MissingInput, Exi
 use Rattle.plan_machine.specs.declared.event.Mark.{Mark}
 use Rattle.plan_machine.specs.declared.event.Mark.TheVariants.{Ended, Failed, Took}
 use Rattle.plan_machine.specs.Total.{has_command}
+use Rattle.plan_status.specs.Consoles.{is_console}
 use Rattle.plan_status.specs.Lines.{label_of, malformed_text, plain_text}
 use Rattle.plan_status.specs.Outcomes.{or_empty}
 use Rattle.plan_progress.specs.declared.counts.Counts.{Counts}
 use Rattle.plan_progress.specs.declared.numbers.Numbers.{Numbers}
+use Rattle.plan_progress.specs.declared.pace.Pace.{Pace}
 use Rattle.plan_progress.specs.declared.display.Display.{Display}
 use Rattle.plan_progress.specs.declared.style.Style.{Style}
 use Rattle.plan_progress.specs.declared.style.Style.TheVariants.{Labels, Commands, Failures}
 use Rattle.plan_progress.specs.Command.{command_of}
 use Rattle.plan_progress.specs.Counting.{counted, counts_of, ended, is_end, no_counts}
+use Rattle.plan_progress.specs.Pace.{recent_rate, times_then}
+use Rattle.plan_progress.specs.Running.{running_of, running_then}
 use Rattle.plan_progress.specs.Template.{at_end, at_start, template_text}
 
 -- What an edge doesn't have in the image is shown as an empty text. Counts are those after the mark that is shown.
@@ -26,10 +30,11 @@ use Rattle.plan_progress.specs.Template.{at_end, at_start, template_text}
 pub record Look : Type 0 where
   pub style : Style
   pub on_terminal : Bool
+  pub colours : Bool
   pub template : List ℕ
 
 abbrev pub look_of : Display → Look
-look_of d = record { style = d.style; on_terminal = d.on_terminal; template = d.template.now }
+look_of d = record { style = d.style; on_terminal = d.on_terminal; colours = d.colours; template = d.template.now }
 
 -- ---- the line of a command
 
@@ -69,21 +74,36 @@ styled_line Failures d p n e = []
 abbrev pub edge_line : Look → Parts → Numbers → ℕ → List ℕ
 edge_line d p n e = if has_command p e then styled_line d.style d p n e else []
 
+-- the line of a command that starts to run: on a terminal, and of a console command
+abbrev pub start_line : Look → Parts → Numbers → ℕ → List ℕ
+start_line d p n e = if d.on_terminal || is_console p e then edge_line d p n e else []
+
+-- the line of a command that has ended; a console command had its line when it started
+abbrev pub ended_line : Look → Parts → Numbers → ℕ → List ℕ
+ended_line d p n e = if is_console p e then [] else edge_line d p n e
+
 -- a missing input has no line
 abbrev pub failure_line : Look → Parts → Numbers → ℕ → Cause → List ℕ
 failure_line d p n e (MissingInput f) = []
-failure_line d p n e cause = edge_line d p n e
-
--- the line of a command that starts to run
-abbrev pub start_line : Look → Parts → Numbers → ℕ → List ℕ
-start_line d p n e = if d.on_terminal then edge_line d p n e else []
+failure_line d p n e cause = ended_line d p n e
 
 -- the line of a mark, which is shown after so many milliseconds
-abbrev pub mark_line : Look → Parts → ℕ → (elapsed : ℕ) → Counts → Mark → List ℕ
-mark_line d p total elapsed c (Took e) = start_line d p (at_start total elapsed c) e
-mark_line d p total elapsed c (Ended e true) = edge_line d p (at_end total elapsed c) e
-mark_line d p total elapsed c (Failed e cause) = failure_line d p (at_end total elapsed c) e cause
-mark_line d p total elapsed c mark = []
+abbrev pub mark_line : Look → Parts → ℕ → Pace → Counts → Mark → List ℕ
+mark_line d p total pace c (Took e) = start_line d p (at_start total pace c) e
+mark_line d p total pace c (Ended e true) = ended_line d p (at_end total pace c) e
+mark_line d p total pace c (Failed e cause) = failure_line d p (at_end total pace c) e cause
+mark_line d p total pace c mark = []
+
+-- On a terminal, the line of the only command that still runs. A console command has none.
+abbrev pub only_line : Look → Parts → Numbers → List ℕ → List ℕ
+only_line d p n (e ∷ []) = if d.on_terminal then ended_line d p n e else []
+only_line d p n running = []
+
+-- the line that is shown after the text of a command that ended, if only one command still runs
+abbrev pub still_line : Look → Parts → Numbers → Mark → List ℕ → List ℕ
+still_line d p n (Ended e true) running = only_line d p n running
+still_line d p n (Failed e cause) running = only_line d p n running
+still_line d p n mark running = []
 
 -- ---- the output of a command that succeeded
 
@@ -108,24 +128,29 @@ abbrev pub paths_text : Parts → List ℕ → List ℕ
 paths_text p [] = []
 paths_text p (f ∷ fs) = or_empty (path_of p f) ++ space ∷ paths_text p fs
 
+-- `FAILED: `, perhaps in red
+abbrev pub failed_word : (colours : Bool) → List ℕ
+failed_word colours = if colours then 27 ∷ codes "[31mFAILED: " ++ 27 ∷ codes "[0m" else codes "FAILED: "
+
 -- `FAILED: [CAUSE] OUTPUT OUTPUT `
-abbrev pub failed_line : Parts → ℕ → Cause → List ℕ
-failed_line p e cause = codes "FAILED: [" ++ cause_text cause ++ codes "] " ++ paths_text p (outputs_of p e) ++ line_feed ∷ []
+abbrev pub failed_line : (colours : Bool) → Parts → ℕ → Cause → List ℕ
+failed_line colours p e cause =
+    failed_word colours ++ (codes "[" ++ (cause_text cause ++ (codes "] " ++ (paths_text p (outputs_of p e) ++ line_feed ∷ []))))
 
 abbrev pub command_line : Parts → ℕ → List ℕ
 command_line p e = if has_command p e then or_empty (command_of p e) ++ line_feed ∷ [] else []
 
 -- an edge whose command failed, or which failed before or after it
-abbrev pub failed_text : Parts → ℕ → Cause → List ℕ → List ℕ
-failed_text p e cause output = failed_line p e cause ++ command_line p e ++ output
+abbrev pub failed_text : (colours : Bool) → Parts → ℕ → Cause → List ℕ → List ℕ
+failed_text colours p e cause output = failed_line colours p e cause ++ command_line p e ++ output
 
 -- an edge that needs a file that is missing
 abbrev pub missing_line : List ℕ → List ℕ → List ℕ
 missing_line path name = codes "ninja: error: '" ++ (path ++ (codes "', needed by '" ++ (name ++ (codes "', missing and no known rule to make it" ++ line_feed ∷ []))))
 
-abbrev pub failure_text : Parts → ℕ → Cause → List ℕ → List ℕ
-failure_text p e (MissingInput f) output = missing_line (or_empty (path_of p f)) (or_empty (first_output p e))
-failure_text p e cause output = failed_text p e cause output
+abbrev pub failure_text : (colours : Bool) → Parts → ℕ → Cause → List ℕ → List ℕ
+failure_text colours p e (MissingInput f) output = missing_line (or_empty (path_of p f)) (or_empty (first_output p e))
+failure_text colours p e cause output = failed_text colours p e cause output
 
 -- ---- the end of a build
 
@@ -161,50 +186,69 @@ has_text (b ∷ bs) = true
 abbrev pub is_open : Bool → Bool → List ℕ → Bool
 is_open on_terminal line_open line = line_open || (on_terminal && has_text line)
 
--- An open line ends before text below it, and with the last mark.
+-- An open line ends before text below it, and with some marks.
 abbrev pub ends_line : Bool → List ℕ → Bool
-ends_line last below = last || has_text below
+ends_line ends below = ends || has_text below
 
 abbrev pub feed_if : Bool → List ℕ
 feed_if ends = if ends then line_feed ∷ [] else []
 
 -- a progress line and the text below it
 abbrev pub joined : Bool → Bool → List ℕ → List ℕ → List ℕ
-joined line_open last line below = line ++ feed_if (line_open && ends_line last below) ++ below
+joined line_open ends line below = line ++ feed_if (line_open && ends_line ends below) ++ below
 
 -- a line is open after both
 abbrev pub stays_open : Bool → Bool → List ℕ → Bool
-stays_open line_open last below = line_open && not (ends_line last below)
+stays_open line_open ends below = line_open && not (ends_line ends below)
+
+-- with this mark a console command begins
+abbrev pub begins_console : Parts → Mark → Bool
+begins_console p (Took e) = is_console p e
+begins_console p mark = false
+
+-- an open line ends with this mark: it is the last one, or what follows is printed by a console command
+abbrev pub closes_line : Parts → ℕ → Counts → Mark → Bool
+closes_line p total c mark = is_last p total c mark || begins_console p mark
 
 -- ---- the text of a build
 
-abbrev pub mark_text : Style → Parts → Mark → List ℕ → List ℕ
-mark_text style p (Ended e true) output = success_output style p e output
-mark_text style p (Failed e cause) output = failure_text p e cause output
-mark_text style p mark output = []
+abbrev pub mark_text : Look → Parts → Mark → List ℕ → List ℕ
+mark_text d p (Ended e true) output = success_output d.style p e output
+mark_text d p (Failed e cause) output = failure_text d.colours p e cause output
+mark_text d p mark output = []
 
 -- the text below a mark's line: its own, and that of the build's end
-abbrev pub text_below : Style → Parts → Counts → Bool → Mark → List ℕ → List ℕ
-text_below style p c last mark output = mark_text style p mark output ++ end_line last c
+abbrev pub text_below : Look → Parts → Counts → Bool → Mark → List ℕ → List ℕ
+text_below d p c last mark output = mark_text d p mark output ++ end_line last c
 
-abbrev pub is_open_at : Look → Parts → ℕ → (elapsed : ℕ) → Bool → Counts → Mark → Bool
-is_open_at d p total elapsed line_open c mark = is_open d.on_terminal line_open (mark_line d p total elapsed c mark)
+abbrev pub is_open_at : Look → Parts → ℕ → Pace → Bool → Counts → Mark → Bool
+is_open_at d p total pace line_open c mark = is_open d.on_terminal line_open (mark_line d p total pace c mark)
 
--- the text of a mark, if a line is open before it or not
-abbrev pub text_with : Look → Parts → ℕ → (elapsed : ℕ) → Bool → Counts → Mark → List ℕ → List ℕ
-text_with d p total elapsed line_open c mark output =
-    joined (is_open_at d p total elapsed line_open c mark) (is_last p total c mark) (mark_line d p total elapsed c mark) (text_below d.style p c (is_last p total c mark) mark output)
+-- the text of a mark itself, if a line is open before it or not
+abbrev pub own_text : Look → Parts → ℕ → Pace → Bool → Counts → Mark → List ℕ → List ℕ
+own_text d p total pace line_open c mark output =
+    joined (is_open_at d p total pace line_open c mark) (closes_line p total c mark) (mark_line d p total pace c mark) (text_below d p c (is_last p total c mark) mark output)
 
 -- a line is open after this text
-abbrev pub open_with : Look → Parts → ℕ → (elapsed : ℕ) → Bool → Counts → Mark → List ℕ → Bool
-open_with d p total elapsed line_open c mark output =
-    stays_open (is_open_at d p total elapsed line_open c mark) (is_last p total c mark) (text_below d.style p c (is_last p total c mark) mark output)
+abbrev pub own_open : Look → Parts → ℕ → Pace → Bool → Counts → Mark → List ℕ → Bool
+own_open d p total pace line_open c mark output =
+    stays_open (is_open_at d p total pace line_open c mark) (closes_line p total c mark) (text_below d p c (is_last p total c mark) mark output)
 
--- a mark, the output that was taken with it, and after how many milliseconds it is shown
+-- the text of a mark, after which these commands run
+abbrev pub text_with : Look → Parts → ℕ → Pace → Bool → Counts → List ℕ → Mark → List ℕ → List ℕ
+text_with d p total pace line_open c running mark output =
+    own_text d p total pace line_open c mark output ++ still_line d p (at_start total pace c) mark running
+
+-- a line is open after this text
+abbrev pub open_with : Look → Parts → ℕ → Pace → Bool → Counts → List ℕ → Mark → List ℕ → Bool
+open_with d p total pace line_open c running mark output =
+    is_open d.on_terminal (own_open d p total pace line_open c mark output) (still_line d p (at_start total pace c) mark running)
+
+-- a mark, the output that was taken with it, and how its line shows the time
 pub record Entry : Type 0 where
   pub mark : Mark
   pub output : Option (List ℕ)
-  pub elapsed : ℕ
+  pub pace : Pace
 
 abbrev pub marks_of : List Entry → List Mark
 marks_of entries = map (λ (entry : Entry). entry.mark) entries
@@ -225,32 +269,59 @@ IsTimed showed mark elapsed = elapsed ≡ 0
 -- the outputs of entries were taken, and a stopwatch showed their milliseconds
 abbrev pub AreTaken : (List ℕ → Option (List ℕ) → Type 0) → (showed : ℕ → Type 0) → Parts → List Entry → Type 0
 AreTaken taken showed p [] = Unit {0}
-AreTaken taken showed p (entry ∷ entries) = IsTaken taken p entry.mark entry.output × IsTimed showed entry.mark entry.elapsed × AreTaken taken showed p entries
+AreTaken taken showed p (entry ∷ entries) = IsTaken taken p entry.mark entry.output × IsTimed showed entry.mark entry.pace.elapsed × AreTaken taken showed p entries
 
--- the text of entries that come after marks with these counts, with or without an open line
-abbrev pub text_after : Look → Parts → ℕ → Bool → Counts → List Entry → List ℕ
-text_after d p total line_open c [] = []
-text_after d p total line_open c (entry ∷ entries) =
-    text_with d p total entry.elapsed line_open (counted p c entry.mark) entry.mark (or_empty entry.output)
-    ++ text_after d p total (open_with d p total entry.elapsed line_open (counted p c entry.mark) entry.mark (or_empty entry.output)) (counted p c entry.mark) entries
+-- the times of the last commands that finished, after one more entry
+abbrev pub times_with : Parts → List ℕ → Entry → List ℕ
+times_with p times entry = times_then p times entry.mark entry.pace.elapsed
+
+-- these times after more entries
+abbrev pub times_all : Parts → List ℕ → List Entry → List ℕ
+times_all p times [] = times
+times_all p times (entry ∷ entries) = times_all p (times_with p times entry) entries
+
+-- The rate of each entry is that of the last commands that finished, the entry's own command included.
+abbrev pub ArePaced : Parts → List ℕ → List Entry → Type 0
+ArePaced p times [] = Unit {0}
+ArePaced p times (entry ∷ entries) = entry.pace.rate ≡ recent_rate (times_with p times entry) × ArePaced p (times_with p times entry) entries
+
+-- the text of an entry that comes after marks with these counts, with or without an open line, while these commands run
+abbrev pub entry_text : Look → Parts → ℕ → Bool → Counts → List ℕ → Entry → List ℕ
+entry_text d p total line_open c running entry =
+    text_with d p total entry.pace line_open (counted p c entry.mark) (running_then running entry.mark) entry.mark (or_empty entry.output)
+
+-- a line is open after it
+abbrev pub entry_open : Look → Parts → ℕ → Bool → Counts → List ℕ → Entry → Bool
+entry_open d p total line_open c running entry =
+    open_with d p total entry.pace line_open (counted p c entry.mark) (running_then running entry.mark) entry.mark (or_empty entry.output)
+
+-- the text of entries
+abbrev pub text_after : Look → Parts → ℕ → Bool → Counts → List ℕ → List Entry → List ℕ
+text_after d p total line_open c running [] = []
+text_after d p total line_open c running (entry ∷ entries) =
+    entry_text d p total line_open c running entry
+    ++ text_after d p total (entry_open d p total line_open c running entry) (counted p c entry.mark) (running_then running entry.mark) entries
 
 -- a line is open after them
-abbrev pub open_after : Look → Parts → ℕ → Bool → Counts → List Entry → Bool
-open_after d p total line_open c [] = line_open
-open_after d p total line_open c (entry ∷ entries) =
-    open_after d p total (open_with d p total entry.elapsed line_open (counted p c entry.mark) entry.mark (or_empty entry.output)) (counted p c entry.mark) entries
+abbrev pub open_after : Look → Parts → ℕ → Bool → Counts → List ℕ → List Entry → Bool
+open_after d p total line_open c running [] = line_open
+open_after d p total line_open c running (entry ∷ entries) =
+    open_after d p total (entry_open d p total line_open c running entry) (counted p c entry.mark) (running_then running entry.mark) entries
 
 abbrev pub text_of : Look → Parts → ℕ → List Entry → List ℕ
-text_of d p total entries = text_after d p total false no_counts entries
+text_of d p total entries = text_after d p total false no_counts [] entries
 
 abbrev pub open_of : Look → Parts → ℕ → List Entry → Bool
-open_of d p total entries = open_after d p total false no_counts entries
+open_of d p total entries = open_after d p total false no_counts [] entries
 
--- The text is that of these marks with the outputs that were taken, when they were shown, and the counts are theirs. `line_open` says whether a line is open after it.
-pub record TellsBuild (taken : List ℕ → Option (List ℕ) → Type 0) (showed : ℕ → Type 0) (look : Look) (counts : Counts) (line_open : Bool) (p : Parts) (total : ℕ) (marks : List Mark) (text : List ℕ) : Type 0 where
+-- The text is that of these marks with the outputs that were taken, when they were shown, and the counts are theirs. `line_open` says whether a line is open after it, `running` are the edges whose commands run, and `times` those of the last commands that finished.
+pub record TellsBuild (taken : List ℕ → Option (List ℕ) → Type 0) (showed : ℕ → Type 0) (look : Look) (counts : Counts) (line_open : Bool) (running : List ℕ) (times : List ℕ) (p : Parts) (total : ℕ) (marks : List Mark) (text : List ℕ) : Type 0 where
   pub entries : List Entry
   pub all : marks_of entries ≡ marks
   pub given : AreTaken taken showed p entries
+  pub paced : ArePaced p [] entries
   pub counted : counts ≡ counts_of p marks
+  pub runs : running ≡ running_of marks
+  pub timed : times ≡ times_all p [] entries
   pub opened : line_open ≡ open_of look p total entries
   pub shown : text ≡ text_of look p total entries

@@ -1,4 +1,6 @@
 pub mod Command
 pub mod Counting
+pub mod Pace
+pub mod Running
 pub mod Template
 pub mod BuildLines

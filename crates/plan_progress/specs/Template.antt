@@ -1,26 +1,28 @@
 -- The text before a label, by a template as ninja's NINJA_STATUS.
-use Rattle.std.specs.Prelude.{ℕ, ◌+◌, ◌-◌, ◌*◌, ◌/◌, ◌%◌, ◌==◌, nat_lt, Bool, false, not, ◌&&◌, ◌||◌, List, [], ◌∷◌, ◌++◌, Option, Some, None, is_none, if◌then◌else◌, codes}
+use Rattle.std.specs.Prelude.{ℕ, ◌-◌, ◌*◌, ◌/◌, ◌%◌, ◌==◌, nat_le, nat_lt, Bool, false, not, ◌&&◌, ◌||◌, List, [], ◌∷◌, ◌++◌, Option, Some, None, is_none, if◌then◌else◌, codes}
 use Rattle.std.specs.Fmt.{decimal}
 use Rattle.plan_text.specs.Bytes.{nul}
 use Rattle.plan_progress.specs.declared.counts.Counts.{Counts}
 use Rattle.plan_progress.specs.declared.numbers.Numbers.{Numbers}
+use Rattle.plan_progress.specs.declared.pace.Pace.{Pace}
 use Rattle.plan_progress.specs.declared.template.Placeholder.{Placeholder}
-use Rattle.plan_progress.specs.declared.template.Placeholder.TheVariants.{Percent, Started, Total, Percentage, Running, Remaining, Finished, Elapsed, Rate, Unmeasured}
+use Rattle.plan_progress.specs.declared.template.Placeholder.TheVariants.{Percent, Started, Total, Percentage, Running, Remaining, Finished, Elapsed, ElapsedClock, Eta, EtaClock, Rate, Recent}
+use Rattle.plan_progress.specs.Pace.{per_ten_seconds}
 
 -- ---- numbers
 
 -- the numbers of a line; `before` commands had finished before its own
-abbrev pub line_numbers : ℕ → (elapsed : ℕ) → Counts → (before : ℕ) → Numbers
-line_numbers total elapsed c before =
-    record { started = c.started; total = total - c.clean; running = c.started - before; finished = c.finished; elapsed = elapsed }
+abbrev pub line_numbers : ℕ → Pace → Counts → (before : ℕ) → Numbers
+line_numbers total pace c before =
+    record { started = c.started; total = total - c.clean; running = c.started - before; finished = c.finished; elapsed = pace.elapsed; recent = pace.rate }
 
 -- the numbers when a command starts
-abbrev pub at_start : ℕ → (elapsed : ℕ) → Counts → Numbers
-at_start total elapsed c = line_numbers total elapsed c c.finished
+abbrev pub at_start : ℕ → Pace → Counts → Numbers
+at_start total pace c = line_numbers total pace c c.finished
 
 -- The numbers when a command has ended. It still counts as one that runs, as with ninja.
-abbrev pub at_end : ℕ → (elapsed : ℕ) → Counts → Numbers
-at_end total elapsed c = line_numbers total elapsed c (c.finished - 1)
+abbrev pub at_end : ℕ → Pace → Counts → Numbers
+at_end total pace c = line_numbers total pace c (c.finished - 1)
 
 abbrev pub percentage : Numbers → ℕ
 percentage n = if n.total == 0 then 0 else n.finished * 100 / n.total
@@ -40,9 +42,56 @@ zeros n = if nat_lt n 10 then codes "00" else if nat_lt n 100 then codes "0" els
 abbrev pub seconds_text : ℕ → List ℕ
 seconds_text n = decimal (n / 1000) ++ codes "." ++ zeros (n % 1000) ++ decimal (n % 1000)
 
--- how many commands have finished in ten seconds, rounded
-abbrev pub rate : Numbers → ℕ
-rate n = (n.finished * 10 * 1000 + n.elapsed / 2) / n.elapsed
+-- The milliseconds until the build ends, if each command that is left takes as long as a finished one took.
+abbrev pub time_left : Numbers → ℕ
+time_left n = n.elapsed * (n.total - n.finished) / n.finished
+
+-- the largest time that is shown, 2^64 - 1 milliseconds
+abbrev pub longest_time : ℕ
+longest_time = 18446744073709551615
+
+-- the time that is left; it isn't known before a command has finished
+abbrev pub eta : Numbers → Option ℕ
+eta n = if n.finished == 0 then None else if nat_le (time_left n) longest_time then Some (time_left n) else None
+
+abbrev pub eta_text : Option ℕ → List ℕ
+eta_text (Some time) = seconds_text time
+eta_text None = codes "?"
+
+-- a zero before a number, so that it has two digits
+abbrev pub zero : ℕ → List ℕ
+zero n = if nat_lt n 10 then codes "0" else []
+
+abbrev pub two_digits : ℕ → List ℕ
+two_digits n = zero n ++ decimal n
+
+-- seconds as `MINUTES:SECONDS`
+abbrev pub minutes_text : ℕ → List ℕ
+minutes_text n = two_digits (n / 60) ++ codes ":" ++ two_digits (n % 60)
+
+-- seconds as `HOURS:MINUTES:SECONDS`
+abbrev pub hours_text : ℕ → List ℕ
+hours_text n = decimal (n / 3600) ++ codes ":" ++ minutes_text (n % 3600)
+
+-- milliseconds as a clock shows them
+abbrev pub clock_text : (hours : Bool) → ℕ → List ℕ
+clock_text hours n = if hours then hours_text (n / 1000) else minutes_text (n / 1000)
+
+-- milliseconds of an hour or more
+abbrev pub is_long : ℕ → Bool
+is_long n = nat_le 3600000 n
+
+abbrev pub is_long_eta : Option ℕ → Bool
+is_long_eta (Some time) = is_long time
+is_long_eta None = false
+
+-- Clocks show hours if one of both times is long, as with ninja.
+abbrev pub has_hours : Numbers → Bool
+has_hours n = is_long n.elapsed || is_long_eta (eta n)
+
+abbrev pub eta_clock_text : (hours : Bool) → Option ℕ → List ℕ
+eta_clock_text hours (Some time) = clock_text hours time
+eta_clock_text hours None = codes "?"
 
 -- tenths, with one digit after the point
 abbrev pub tenths_text : ℕ → List ℕ
@@ -50,16 +99,21 @@ tenths_text n = decimal (n / 10) ++ codes "." ++ decimal (n % 10)
 
 -- in the first millisecond the rate isn't known
 abbrev pub rate_text : Numbers → List ℕ
-rate_text n = if n.elapsed == 0 then codes "?" else tenths_text (rate n)
+rate_text n = if n.elapsed == 0 then codes "?" else tenths_text (per_ten_seconds n.finished n.elapsed)
+
+-- the rate of the last commands
+abbrev pub recent_text : Option ℕ → List ℕ
+recent_text (Some rate) = tenths_text rate
+recent_text None = codes "?"
 
 -- ---- placeholders
 
 abbrev pub percent : ℕ
 percent = 37
 
--- `E`, the time that remains, and `c`, the rate of the last commands
-abbrev pub is_unmeasured : ℕ → Bool
-is_unmeasured b = (b == 69) || (b == 99)
+-- `p`, and `P`: times of earlier builds aren't kept, so the percentage of the predicted time is that of commands
+abbrev pub is_percentage : ℕ → Bool
+is_percentage b = (b == 112) || (b == 80)
 
 -- the placeholder of the byte after a percent sign
 abbrev pub placeholder_of : ℕ → Option Placeholder
@@ -67,13 +121,16 @@ placeholder_of b =
     if b == percent then Some Percent
     else if b == 115 then Some Started
     else if b == 116 then Some Total
-    else if b == 112 then Some Percentage
+    else if is_percentage b then Some Percentage
     else if b == 114 then Some Running
     else if b == 117 then Some Remaining
     else if b == 102 then Some Finished
     else if b == 101 then Some Elapsed
+    else if b == 119 then Some ElapsedClock
+    else if b == 69 then Some Eta
+    else if b == 87 then Some EtaClock
     else if b == 111 then Some Rate
-    else if is_unmeasured b then Some Unmeasured
+    else if b == 99 then Some Recent
     else None
 
 abbrev pub placeholder_text : Placeholder → Numbers → List ℕ
@@ -85,8 +142,11 @@ placeholder_text Running n = decimal n.running
 placeholder_text Remaining n = decimal (n.total - n.started)
 placeholder_text Finished n = decimal n.finished
 placeholder_text Elapsed n = seconds_text n.elapsed
+placeholder_text ElapsedClock n = clock_text (has_hours n) n.elapsed
+placeholder_text Eta n = eta_text (eta n)
+placeholder_text EtaClock n = eta_clock_text (has_hours n) (eta n)
 placeholder_text Rate n = rate_text n
-placeholder_text Unmeasured n = codes "?"
+placeholder_text Recent n = recent_text n.recent
 
 -- an unknown placeholder has no text
 abbrev pub text_if_known : Option Placeholder → Numbers → List ℕ

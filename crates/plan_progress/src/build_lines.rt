@@ -13,11 +13,13 @@ use crate::counts::Counts;
 use crate::display::Display;
 use crate::failures::failure_text;
 use crate::line_feeds::{is_open, joined, stays_open};
-use crate::lines::{concatenate, mark_line, success_output};
-use crate::names::first_output;
+use crate::lines::{concatenate, mark_line, still_line, success_output};
+use crate::names::{first_output, is_console};
 use crate::outputs::Outputs;
+use crate::pace::{Pace, recent_rate, times_then};
+use crate::running::running_then;
 use crate::stopwatch::Stopwatch;
-use crate::style::Style;
+use crate::template::at_start;
 use plan_image::Image;
 use plan_machine::Mark;
 use plan_status::Format;
@@ -25,7 +27,7 @@ use plan_verify::Verified;
 use std::alloc::{AllocError, Global};
 
 /// The text of a build: a line for each command that ended, with its output, and a line of counts at the end. On a
-/// terminal also a line for each command that starts.
+/// terminal also a line for each command that starts. A console command has its line only when it starts.
 #[derive(Drop)]
 pub struct BuildLines<'a, O> {
     outputs: &'a O,
@@ -34,11 +36,15 @@ pub struct BuildLines<'a, O> {
     counts: Counts,
     /// A progress line has no line feed after it yet.
     line_open: bool,
+    /// The edges whose commands run.
+    running: Vec<u32>,
+    /// The times of the last commands that finished, in milliseconds.
+    times: Vec<u64>,
 }
 
 impl<'a, O: Outputs + Stopwatch> BuildLines<'a, O> {
     /// Creates the format. When marks come, it takes the outputs of commands from `outputs`, and the time.
-    pub fn new(outputs: &'a O, display: Display<'a>) -> BuildLines<'a, O>
+    pub fn new(alloc: Global, outputs: &'a O, display: Display<'a>) -> BuildLines<'a, O>
         ensures { look_of result.display ≡ look_of display.entry }
     {
         BuildLines {
@@ -46,6 +52,8 @@ impl<'a, O: Outputs + Stopwatch> BuildLines<'a, O> {
             display,
             counts: no_counts(),
             line_open: false,
+            running: Vec::new(alloc),
+            times: Vec::new(alloc),
         }
     }
 
@@ -72,6 +80,16 @@ fn output_with<O: Outputs>(image: &Image, outputs: &O, mark: Mark) -> Option<Vec
         Mark::Ended(edge, true) => output_of(image, outputs, edge),
         Mark::Failed(edge, _) => output_of(image, outputs, edge),
         _ => None,
+    }
+}
+
+/// Tells whoever waits for it which text is printed before the console command of a mark begins.
+fn announce<O: Outputs>(image: &Image, outputs: &O, mark: Mark, text: &[u8]) {
+    match mark {
+        Mark::Took(edge) if is_console(image, edge) => {
+            outputs.begin_console(first_output(image, edge), text);
+        }
+        _ => {}
     }
 }
 
@@ -169,21 +187,34 @@ fn end_line(alloc: Global, last: bool, counts: Counts) -> Result<Vec<u8>, AllocE
     }
 }
 
+/// Checks whether a console command begins with this mark.
+fn begins_console(image: &Image, mark: Mark) -> bool
+    ensures { result ≡ defined.begins_console image.now mark }
+{
+    match mark {
+        Mark::Took(edge) => is_console(image, edge),
+        _ => false,
+    }
+}
+
 /// Returns the text of a mark below its line.
 fn mark_text(
     alloc: Global,
     image: &Image,
-    style: Style,
+    display: &Display<'_>,
     mark: Mark,
     output: &[u8],
 ) -> Result<Vec<u8>, AllocError>
-    ensures { IfOk result (λ text. text.items ≡ defined.mark_text style image.now mark output.now) }
+    ensures { IfOk result (λ text. text.items ≡ defined.mark_text (look_of display.now) image.now mark output.now) }
 {
     match mark {
         Mark::Ended(edge, true) => {
-            Ok(Vec::from_slice(alloc, success_output(image, style, edge, output))?)
+            let shown = success_output(image, display.style, edge, output);
+            Ok(Vec::from_slice(alloc, shown)?)
         }
-        Mark::Failed(edge, cause) => failure_text(alloc, image, edge, cause, output),
+        Mark::Failed(edge, cause) => {
+            failure_text(alloc, image, display.colours, edge, cause, output)
+        }
         _ => Ok(Vec::new(alloc)),
     }
 }
@@ -192,15 +223,15 @@ fn mark_text(
 fn text_below(
     alloc: Global,
     image: &Image,
-    style: Style,
+    display: &Display<'_>,
     counts: Counts,
     last: bool,
     mark: Mark,
     output: &[u8],
 ) -> Result<Vec<u8>, AllocError>
-    ensures { IfOk result (λ text. text.items ≡ defined.text_below style image.now counts last mark output.now) }
+    ensures { IfOk result (λ text. text.items ≡ defined.text_below (look_of display.now) image.now counts last mark output.now) }
 {
-    let text = mark_text(alloc, image, style, mark, output)?;
+    let text = mark_text(alloc, image, display, mark, output)?;
     let end = end_line(alloc, last, counts)?;
     concatenate(alloc, &[text.as_slice(), end.as_slice()])
 }
@@ -212,30 +243,57 @@ struct Shown {
     line_open: bool,
 }
 
-/// Returns the text of a mark that is shown after this number of milliseconds. `line_open` says whether a progress line is
-/// open before it.
-fn text_with(
+/// Returns the own text of a mark that is shown at this pace. `line_open` says whether a progress
+/// line is open before it.
+fn own_text(
     alloc: Global,
     image: &Image,
     display: &Display<'_>,
     total: u64,
-    elapsed: u64,
+    pace: Pace,
     line_open: bool,
     counts: Counts,
     mark: Mark,
     output: &[u8],
 ) -> Result<Shown, AllocError>
-    ensures text { IfOk result (λ shown. shown.text.items ≡ defined.text_with (look_of display.now) image.now total elapsed line_open counts mark output.now) }
-    ensures left { IfOk result (λ shown. shown.line_open ≡ defined.open_with (look_of display.now) image.now total elapsed line_open counts mark output.now) }
+    ensures text { IfOk result (λ shown. shown.text.items ≡ defined.own_text (look_of display.now) image.now total pace line_open counts mark output.now) }
+    ensures left { IfOk result (λ shown. shown.line_open ≡ defined.own_open (look_of display.now) image.now total pace line_open counts mark output.now) }
 {
     let Some(last) = is_last(image, total, counts, mark) else {
         return Err(AllocError);
     };
-    let line = mark_line(alloc, image, display, total, elapsed, counts, mark)?;
-    let below = text_below(alloc, image, display.style, counts, last, mark, output)?;
+    let line = mark_line(alloc, image, display, total, pace, counts, mark)?;
+    let below = text_below(alloc, image, display, counts, last, mark, output)?;
     let now_open = is_open(display.on_terminal, line_open, &line);
-    let text = joined(alloc, now_open, last, &line, &below)?;
-    let line_open = stays_open(now_open, last, &below);
+    let closes = last | begins_console(image, mark);
+    let text = joined(alloc, now_open, closes, &line, &below)?;
+    let line_open = stays_open(now_open, closes, &below);
+    Ok(Shown { text, line_open })
+}
+
+/// Returns the text of a mark after which these commands run.
+fn text_with(
+    alloc: Global,
+    image: &Image,
+    display: &Display<'_>,
+    total: u64,
+    pace: Pace,
+    line_open: bool,
+    counts: Counts,
+    running: &[u32],
+    mark: Mark,
+    output: &[u8],
+) -> Result<Shown, AllocError>
+    ensures text { IfOk result (λ shown. shown.text.items ≡ defined.text_with (look_of display.now) image.now total pace line_open counts running.now mark output.now) }
+    ensures left { IfOk result (λ shown. shown.line_open ≡ defined.open_with (look_of display.now) image.now total pace line_open counts running.now mark output.now) }
+{
+    let own = own_text(
+        alloc, image, display, total, pace, line_open, counts, mark, output,
+    )?;
+    let numbers = at_start(total, pace, counts);
+    let still = still_line(alloc, image, display, numbers, mark, running)?;
+    let line_open = is_open(display.on_terminal, own.line_open, &still);
+    let text = concatenate(alloc, &[own.text.as_slice(), still.as_slice()])?;
     Ok(Shown { text, line_open })
 }
 
@@ -246,11 +304,13 @@ impl<O: Outputs + Stopwatch> Format for BuildLines<'_, O> {
 
     ghost kept = { λ f. look_of f.display };
 
-    ghost tells = { λ f. TellsBuild (O.taken f.outputs.now) (O.showed f.outputs.now) (look_of f.display) f.counts f.line_open };
+    ghost tells = { λ f. TellsBuild (O.taken f.outputs.now) (O.showed f.outputs.now) (look_of f.display) f.counts f.line_open f.running.items f.times.items };
 
     fn begin(&mut self) {
         self.counts = no_counts();
         self.line_open = false;
+        self.running.clear();
+        self.times.clear();
     }
 
     fn line(
@@ -264,15 +324,22 @@ impl<O: Outputs + Stopwatch> Format for BuildLines<'_, O> {
         let Some(counts) = counted(image, self.counts, mark) else {
             return Err(AllocError);
         };
+        let running = running_then(alloc, &self.running, mark)?;
         let elapsed = elapsed_with(self.outputs, mark);
+        let times = times_then(alloc, image, &self.times, mark, elapsed)?;
+        let rate = recent_rate(&times)?;
+        let pace = Pace { elapsed, rate };
         let output = output_with(image, self.outputs, mark);
         let bytes = bytes_of(&output);
         let (display, was_open) = (self.display, self.line_open);
         let shown = text_with(
-            alloc, image, &display, total, elapsed, was_open, counts, mark, bytes,
+            alloc, image, &display, total, pace, was_open, counts, &running, mark, bytes,
         )?;
+        announce(image, self.outputs, mark, &shown.text);
         self.counts = counts;
         self.line_open = shown.line_open;
+        self.running = running;
+        self.times = times;
         Ok(shown.text)
     }
 }

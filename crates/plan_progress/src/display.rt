@@ -9,6 +9,8 @@ pub struct Display<'a> {
     pub style: Style,
     /// A terminal shows the text: each progress line is written over the one before it.
     pub on_terminal: bool,
+    /// Escape sequences are wanted, so that `FAILED:` is red.
+    pub colours: bool,
     /// The template of the text before a label, as ninja's `NINJA_STATUS`: a percent sign and the byte after it are a
     /// placeholder. An unknown placeholder has no text.
     pub template: &'a [u8],

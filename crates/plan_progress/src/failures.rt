@@ -72,16 +72,34 @@ fn paths_text(alloc: Global, image: &Image, files: &[u32]) -> Result<Vec<u8>, Al
     Ok(text)
 }
 
+/// Returns `FAILED: `, perhaps in red.
+fn failed_word(colours: bool) -> &'static [u8]
+    ensures { result.now ≡ defined.failed_word colours }
+{
+    if colours {
+        b"\x1b[31mFAILED: \x1b[0m"
+    } else {
+        b"FAILED: "
+    }
+}
+
 /// Returns `FAILED: [CAUSE] OUTPUT OUTPUT `.
-fn failed_line(alloc: Global, image: &Image, edge: u32, cause: Cause) -> Result<Vec<u8>, AllocError>
-    ensures { IfOk result (λ line. line.items ≡ defined.failed_line image.now edge cause) }
+fn failed_line(
+    alloc: Global,
+    image: &Image,
+    colours: bool,
+    edge: u32,
+    cause: Cause,
+) -> Result<Vec<u8>, AllocError>
+    ensures { IfOk result (λ line. line.items ≡ defined.failed_line colours image.now edge cause) }
 {
     let cause = cause_text(alloc, cause)?;
     let paths = paths_text(alloc, image, outputs_of(image, edge))?;
     concatenate(
         alloc,
         &[
-            b"FAILED: [".as_slice(),
+            failed_word(colours),
+            b"[",
             cause.as_slice(),
             b"] ",
             paths.as_slice(),
@@ -94,13 +112,14 @@ fn failed_line(alloc: Global, image: &Image, edge: u32, cause: Cause) -> Result<
 fn failed_text(
     alloc: Global,
     image: &Image,
+    colours: bool,
     edge: u32,
     cause: Cause,
     output: &[u8],
 ) -> Result<Vec<u8>, AllocError>
-    ensures { IfOk result (λ text. text.items ≡ defined.failed_text image.now edge cause output.now) }
+    ensures { IfOk result (λ text. text.items ≡ defined.failed_text colours image.now edge cause output.now) }
 {
-    let failure = failed_line(alloc, image, edge, cause)?;
+    let failure = failed_line(alloc, image, colours, edge, cause)?;
     let command = command_line(alloc, image, edge)?;
     concatenate(alloc, &[failure.as_slice(), command.as_slice(), output])
 }
@@ -126,16 +145,17 @@ fn missing_line(alloc: Global, path: &[u8], name: &[u8]) -> Result<Vec<u8>, Allo
 pub(crate) fn failure_text(
     alloc: Global,
     image: &Image,
+    colours: bool,
     edge: u32,
     cause: Cause,
     output: &[u8],
 ) -> Result<Vec<u8>, AllocError>
-    ensures { IfOk result (λ text. text.items ≡ defined.failure_text image.now edge cause output.now) }
+    ensures { IfOk result (λ text. text.items ≡ defined.failure_text colours image.now edge cause output.now) }
 {
     match cause {
         Cause::MissingInput(file) => {
             missing_line(alloc, path_of(image, file), first_output(image, edge))
         }
-        _ => failed_text(alloc, image, edge, cause, output),
+        _ => failed_text(alloc, image, colours, edge, cause, output),
     }
 }

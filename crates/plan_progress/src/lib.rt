@@ -23,6 +23,8 @@ mod lines;
 mod names;
 mod numbers;
 mod outputs;
+mod pace;
+mod running;
 mod stopwatch;
 mod style;
 mod template;

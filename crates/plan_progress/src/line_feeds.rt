@@ -22,11 +22,11 @@ pub(crate) fn is_open(on_terminal: bool, line_open: bool, line: &[u8]) -> bool
     line_open | (on_terminal & has_text(line))
 }
 
-/// Checks whether an open line ends before this text. `last` says whether the build ends with it.
-fn ends_line(last: bool, below: &[u8]) -> bool
-    ensures { result ≡ defined.ends_line last below.now }
+/// Checks whether an open line ends before this text. `ends` says whether it ends even if the text is empty.
+fn ends_line(ends: bool, below: &[u8]) -> bool
+    ensures { result ≡ defined.ends_line ends below.now }
 {
-    last | has_text(below)
+    ends | has_text(below)
 }
 
 /// Returns a line feed, or nothing.
@@ -40,21 +40,21 @@ fn feed_if(ends: bool) -> &'static [u8]
 pub(crate) fn joined(
     alloc: Global,
     line_open: bool,
-    last: bool,
+    ends: bool,
     line: &[u8],
     below: &[u8],
 ) -> Result<Vec<u8>, AllocError>
-    ensures { IfOk result (λ text. text.items ≡ defined.joined line_open last line.now below.now) }
+    ensures { IfOk result (λ text. text.items ≡ defined.joined line_open ends line.now below.now) }
 {
     let mut text = Vec::from_slice(alloc, line)?;
-    text.extend_from_slice(feed_if(line_open & ends_line(last, below)))?;
+    text.extend_from_slice(feed_if(line_open & ends_line(ends, below)))?;
     text.extend_from_slice(below)?;
     Ok(text)
 }
 
 /// Checks whether a line is open after a progress line and the text below it.
-pub(crate) fn stays_open(line_open: bool, last: bool, below: &[u8]) -> bool
-    ensures { result ≡ defined.stays_open line_open last below.now }
+pub(crate) fn stays_open(line_open: bool, ends: bool, below: &[u8]) -> bool
+    ensures { result ≡ defined.stays_open line_open ends below.now }
 {
-    line_open & !ends_line(last, below)
+    line_open & !ends_line(ends, below)
 }

@@ -9,8 +9,9 @@ ghost use Rattle.plan_progress.specs.BuildLines.{look_of};
 use crate::counts::Counts;
 use crate::display::Display;
 use crate::edge_command::command_of;
-use crate::names::{has_command, label_of};
+use crate::names::{has_command, is_console, label_of};
 use crate::numbers::Numbers;
+use crate::pace::Pace;
 use crate::style::Style;
 use crate::template::{at_end, at_start, template_text};
 use plan_image::Image;
@@ -153,7 +154,7 @@ fn edge_line(
     }
 }
 
-/// Returns the line of a command that starts to run.
+/// Returns the line of a command that starts to run. Empty if it isn't shown yet.
 fn start_line(
     alloc: Global,
     image: &Image,
@@ -163,10 +164,27 @@ fn start_line(
 ) -> Result<Vec<u8>, AllocError>
     ensures { IfOk result (λ line. line.items ≡ defined.start_line (look_of display.now) image.now numbers edge) }
 {
-    if display.on_terminal {
+    if display.on_terminal | is_console(image, edge) {
         edge_line(alloc, image, display, numbers, edge)
     } else {
         Ok(Vec::new(alloc))
+    }
+}
+
+/// Returns the line of a command that has ended. Empty for a console command, which had its line when it started.
+fn ended_line(
+    alloc: Global,
+    image: &Image,
+    display: &Display<'_>,
+    numbers: Numbers,
+    edge: u32,
+) -> Result<Vec<u8>, AllocError>
+    ensures { IfOk result (λ line. line.items ≡ defined.ended_line (look_of display.now) image.now numbers edge) }
+{
+    if is_console(image, edge) {
+        Ok(Vec::new(alloc))
+    } else {
+        edge_line(alloc, image, display, numbers, edge)
     }
 }
 
@@ -183,7 +201,7 @@ fn failure_line(
 {
     match cause {
         Cause::MissingInput(_) => Ok(Vec::new(alloc)),
-        _ => edge_line(alloc, image, display, numbers, edge),
+        _ => ended_line(alloc, image, display, numbers, edge),
     }
 }
 
@@ -193,31 +211,67 @@ pub(crate) fn mark_line(
     image: &Image,
     display: &Display<'_>,
     total: u64,
-    elapsed: u64,
+    pace: Pace,
     counts: Counts,
     mark: Mark,
 ) -> Result<Vec<u8>, AllocError>
-    ensures { IfOk result (λ line. line.items ≡ defined.mark_line (look_of display.now) image.now total elapsed counts mark) }
+    ensures { IfOk result (λ line. line.items ≡ defined.mark_line (look_of display.now) image.now total pace counts mark) }
 {
     match mark {
-        Mark::Took(edge) => start_line(
+        Mark::Took(edge) => start_line(alloc, image, display, at_start(total, pace, counts), edge),
+        Mark::Ended(edge, true) => ended_line(
             alloc,
             image,
             display,
-            at_start(total, elapsed, counts),
-            edge,
-        ),
-        Mark::Ended(edge, true) => edge_line(
-            alloc,
-            image,
-            display,
-            at_end(total, elapsed, counts),
+            at_end(total, pace, counts),
             edge,
         ),
         Mark::Failed(edge, cause) => {
-            let numbers = at_end(total, elapsed, counts);
+            let numbers = at_end(total, pace, counts);
             failure_line(alloc, image, display, numbers, edge, cause)
         }
+        _ => Ok(Vec::new(alloc)),
+    }
+}
+
+/// Returns the line of the only command that still runs, on a terminal. Empty if others run or none, and for a console
+/// command.
+fn only_line(
+    alloc: Global,
+    image: &Image,
+    display: &Display<'_>,
+    numbers: Numbers,
+    running: &[u32],
+) -> Result<Vec<u8>, AllocError>
+    ensures { IfOk result (λ line. line.items ≡ defined.only_line (look_of display.now) image.now numbers running.now) }
+{
+    match running {
+        [] => Ok(Vec::new(alloc)),
+        [edge] => {
+            if display.on_terminal {
+                ended_line(alloc, image, display, numbers, *edge)
+            } else {
+                Ok(Vec::new(alloc))
+            }
+        }
+        [_, _, ..] => Ok(Vec::new(alloc)),
+    }
+}
+
+/// Returns the line that is shown after the text of a mark, if a command ended and only one still runs.
+pub(crate) fn still_line(
+    alloc: Global,
+    image: &Image,
+    display: &Display<'_>,
+    numbers: Numbers,
+    mark: Mark,
+    running: &[u32],
+) -> Result<Vec<u8>, AllocError>
+    ensures { IfOk result (λ line. line.items ≡ defined.still_line (look_of display.now) image.now numbers mark running.now) }
+{
+    match mark {
+        Mark::Ended(_, true) => only_line(alloc, image, display, numbers, running),
+        Mark::Failed(_, _) => only_line(alloc, image, display, numbers, running),
         _ => Ok(Vec::new(alloc)),
     }
 }

@@ -3,10 +3,12 @@
 ghost use Rattle.std.specs.Prelude.{◌≡◌};
 ghost use Rattle.plan_verify.specs.Tables.{first_path, first_output, outputs_of, path_of};
 ghost use Rattle.plan_machine.specs.Total.{has_command};
+ghost use Rattle.plan_status.specs.Consoles.{is_console};
 ghost use Rattle.plan_status.specs.Lines.{label_of};
 ghost use Rattle.plan_status.specs.Outcomes.{or_empty};
 
 use plan_image::{Image, Sort};
+use plan_status::in_console;
 
 /// Returns the path of a file.
 pub(crate) fn path_of(image: &Image, file: u32) -> &[u8]
@@ -57,6 +59,13 @@ pub(crate) fn label_of(image: &Image, edge: u32) -> &[u8]
         },
         None => &[],
     }
+}
+
+/// Checks whether an edge is a console edge.
+pub(crate) fn is_console(image: &Image, edge: u32) -> bool
+    ensures { result ≡ is_console image.now edge }
+{
+    in_console(image.parts(), edge)
 }
 
 /// Checks whether an edge has a command.

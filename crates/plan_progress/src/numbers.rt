@@ -13,4 +13,6 @@ pub struct Numbers {
     pub finished: u64,
     /// The milliseconds since the build began.
     pub elapsed: u64,
+    /// How many finish in ten seconds, by the last ones that did. None if it isn't known.
+    pub recent: Option<u64>,
 }

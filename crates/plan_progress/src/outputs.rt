@@ -12,4 +12,8 @@ pub trait Outputs {
     /// waits for the edge.
     fn take(&self, edge: &[u8]) -> Option<Vec<u8>>
         ensures { Self.taken self.now edge.now (option_map (λ text. text.items) result) };
+
+    /// Is told that `text` is printed next, and that the console command of an edge begins after it. `edge` is the path
+    /// of the edge's first output.
+    fn begin_console(&self, edge: &[u8], text: &[u8]);
 }

@@ -7,6 +7,7 @@ ghost use Rattle.plan_progress.specs.Template as defined;
 use crate::counts::Counts;
 use crate::lines::concatenate;
 use crate::numbers::Numbers;
+use crate::pace::{Pace, per_ten_seconds};
 use std::alloc::{AllocError, Global};
 
 /// What a placeholder of a template stands for.
@@ -28,37 +29,44 @@ pub enum Placeholder {
     Finished,
     /// The seconds since the build began.
     Elapsed,
+    /// The minutes and seconds since the build began.
+    ElapsedClock,
+    /// The seconds until the build ends, as predicted.
+    Eta,
+    /// The minutes and seconds until the build ends, as predicted.
+    EtaClock,
     /// The number of commands that have finished in a second.
     Rate,
-    /// A time or a rate that isn't measured.
-    Unmeasured,
+    /// The number of commands that finish in a second, by the last ones that did.
+    Recent,
 }
 
 /// Returns the numbers of a line. `before` is the number of commands that had finished before the command of the line.
-fn line_numbers(total: u64, elapsed: u64, counts: Counts, before: u64) -> Numbers
-    ensures { result ≡ defined.line_numbers total elapsed counts before }
+fn line_numbers(total: u64, pace: Pace, counts: Counts, before: u64) -> Numbers
+    ensures { result ≡ defined.line_numbers total pace counts before }
 {
     Numbers {
         started: counts.started,
         total: total.saturating_sub(counts.clean),
         running: counts.started.saturating_sub(before),
         finished: counts.finished,
-        elapsed,
+        elapsed: pace.elapsed,
+        recent: pace.rate,
     }
 }
 
 /// Returns the numbers when a command starts.
-pub(crate) fn at_start(total: u64, elapsed: u64, counts: Counts) -> Numbers
-    ensures { result ≡ defined.at_start total elapsed counts }
+pub(crate) fn at_start(total: u64, pace: Pace, counts: Counts) -> Numbers
+    ensures { result ≡ defined.at_start total pace counts }
 {
-    line_numbers(total, elapsed, counts, counts.finished)
+    line_numbers(total, pace, counts, counts.finished)
 }
 
 /// Returns the numbers when a command has ended.
-pub(crate) fn at_end(total: u64, elapsed: u64, counts: Counts) -> Numbers
-    ensures { result ≡ defined.at_end total elapsed counts }
+pub(crate) fn at_end(total: u64, pace: Pace, counts: Counts) -> Numbers
+    ensures { result ≡ defined.at_end total pace counts }
 {
-    line_numbers(total, elapsed, counts, counts.finished.saturating_sub(1))
+    line_numbers(total, pace, counts, counts.finished.saturating_sub(1))
 }
 
 /// Returns the percentage of commands that have finished. None if a number is too large for a `u64`.
@@ -127,13 +135,104 @@ fn seconds_text(alloc: Global, number: u64) -> Result<Vec<u8>, AllocError>
     )
 }
 
-/// Returns how many commands have finished in ten seconds. None if a number is too large for a `u64`.
-fn rate(numbers: Numbers) -> Option<u64>
-    ensures { IfSome result (λ n. n ≡ defined.rate numbers) }
+/// Returns the milliseconds until the build ends, if commands go on as they did. None before a command has finished, and
+/// if the number is too large for a `u64`.
+fn eta(numbers: Numbers) -> Option<u64>
+    ensures { result ≡ defined.eta numbers }
 {
-    let finished = numbers.finished.checked_mul(10)?.checked_mul(1000)?;
-    let rounded = finished.checked_add(numbers.elapsed / 2)?;
-    rounded.checked_div(numbers.elapsed)
+    if numbers.finished == 0 {
+        return None;
+    }
+    let left = numbers.total.saturating_sub(numbers.finished);
+    let time = u128::from(numbers.elapsed) * u128::from(left) / u128::from(numbers.finished);
+    if time <= u128::from(u64::MAX) {
+        Some(time as u64)
+    } else {
+        None
+    }
+}
+
+/// Returns a predicted time as seconds, or `?` if it isn't known.
+fn eta_text(alloc: Global, eta: Option<u64>) -> Result<Vec<u8>, AllocError>
+    ensures { IfOk result (λ text. text.items ≡ defined.eta_text eta) }
+{
+    match eta {
+        Some(time) => seconds_text(alloc, time),
+        None => Ok(Vec::from_slice(alloc, b"?".as_slice())?),
+    }
+}
+
+/// Returns the zero before a number that is shown with two digits.
+fn zero(number: u64) -> &'static [u8]
+    ensures { result.now ≡ defined.zero number }
+{
+    if number < 10 { b"0" } else { &[] }
+}
+
+/// Returns seconds as `MINUTES:SECONDS`.
+fn minutes_text(alloc: Global, number: u64) -> Result<Vec<u8>, AllocError>
+    ensures { IfOk result (λ text. text.items ≡ defined.minutes_text number) }
+{
+    let (minutes, seconds) = (number / 60, number % 60);
+    let before = minutes.to_string(alloc)?;
+    let after = seconds.to_string(alloc)?;
+    concatenate(
+        alloc,
+        &[
+            zero(minutes),
+            before.as_bytes(),
+            b":",
+            zero(seconds),
+            after.as_bytes(),
+        ],
+    )
+}
+
+/// Returns seconds as `HOURS:MINUTES:SECONDS`.
+fn hours_text(alloc: Global, number: u64) -> Result<Vec<u8>, AllocError>
+    ensures { IfOk result (λ text. text.items ≡ defined.hours_text number) }
+{
+    let hours = (number / 3600).to_string(alloc)?;
+    let rest = minutes_text(alloc, number % 3600)?;
+    concatenate(alloc, &[hours.as_bytes(), b":", rest.as_slice()])
+}
+
+/// Returns milliseconds as a clock shows them, with hours or without.
+fn clock_text(alloc: Global, hours: bool, number: u64) -> Result<Vec<u8>, AllocError>
+    ensures { IfOk result (λ text. text.items ≡ defined.clock_text hours number) }
+{
+    if hours {
+        hours_text(alloc, number / 1000)
+    } else {
+        minutes_text(alloc, number / 1000)
+    }
+}
+
+/// Checks whether a predicted time is an hour or more.
+fn is_long_eta(eta: Option<u64>) -> bool
+    ensures { result ≡ defined.is_long_eta eta }
+{
+    match eta {
+        Some(time) => time >= 3600000,
+        None => false,
+    }
+}
+
+/// Checks whether clocks show hours.
+fn has_hours(numbers: Numbers) -> bool
+    ensures { result ≡ defined.has_hours numbers }
+{
+    (numbers.elapsed >= 3600000) | is_long_eta(eta(numbers))
+}
+
+/// Returns a predicted time as a clock shows it, or `?` if it isn't known.
+fn eta_clock_text(alloc: Global, hours: bool, eta: Option<u64>) -> Result<Vec<u8>, AllocError>
+    ensures { IfOk result (λ text. text.items ≡ defined.eta_clock_text hours eta) }
+{
+    match eta {
+        Some(time) => clock_text(alloc, hours, time),
+        None => Ok(Vec::from_slice(alloc, b"?".as_slice())?),
+    }
 }
 
 /// Returns tenths with one digit after the point.
@@ -152,17 +251,27 @@ fn rate_text(alloc: Global, numbers: Numbers) -> Result<Vec<u8>, AllocError>
     if numbers.elapsed == 0 {
         return Ok(Vec::from_slice(alloc, b"?".as_slice())?);
     }
-    match rate(numbers) {
+    match per_ten_seconds(numbers.finished, numbers.elapsed) {
         Some(number) => tenths_text(alloc, number),
         None => Err(AllocError),
     }
 }
 
-/// Checks whether this byte after a percent sign stands for a time or a rate that isn't measured.
-fn is_unmeasured(byte: u8) -> bool
-    ensures { result ≡ defined.is_unmeasured byte }
+/// Returns the rate of the last commands, or `?` if it isn't known.
+fn recent_text(alloc: Global, rate: Option<u64>) -> Result<Vec<u8>, AllocError>
+    ensures { IfOk result (λ text. text.items ≡ defined.recent_text rate) }
 {
-    (byte == b'E') | (byte == b'c')
+    match rate {
+        Some(rate) => tenths_text(alloc, rate),
+        None => Ok(Vec::from_slice(alloc, b"?".as_slice())?),
+    }
+}
+
+/// Checks whether this byte after a percent sign stands for the percentage.
+fn is_percentage(byte: u8) -> bool
+    ensures { result ≡ defined.is_percentage byte }
+{
+    (byte == b'p') | (byte == b'P')
 }
 
 /// Returns the placeholder of the byte after a percent sign. None if it is unknown.
@@ -175,7 +284,7 @@ fn placeholder_of(byte: u8) -> Option<Placeholder>
         Some(Placeholder::Started)
     } else if byte == b't' {
         Some(Placeholder::Total)
-    } else if byte == b'p' {
+    } else if is_percentage(byte) {
         Some(Placeholder::Percentage)
     } else if byte == b'r' {
         Some(Placeholder::Running)
@@ -185,10 +294,16 @@ fn placeholder_of(byte: u8) -> Option<Placeholder>
         Some(Placeholder::Finished)
     } else if byte == b'e' {
         Some(Placeholder::Elapsed)
+    } else if byte == b'w' {
+        Some(Placeholder::ElapsedClock)
+    } else if byte == b'E' {
+        Some(Placeholder::Eta)
+    } else if byte == b'W' {
+        Some(Placeholder::EtaClock)
     } else if byte == b'o' {
         Some(Placeholder::Rate)
-    } else if is_unmeasured(byte) {
-        Some(Placeholder::Unmeasured)
+    } else if byte == b'c' {
+        Some(Placeholder::Recent)
     } else {
         None
     }
@@ -221,8 +336,11 @@ fn placeholder_text(
         Placeholder::Remaining => decimal(alloc, numbers.total.saturating_sub(numbers.started)),
         Placeholder::Finished => decimal(alloc, numbers.finished),
         Placeholder::Elapsed => seconds_text(alloc, numbers.elapsed),
+        Placeholder::ElapsedClock => clock_text(alloc, has_hours(numbers), numbers.elapsed),
+        Placeholder::Eta => eta_text(alloc, eta(numbers)),
+        Placeholder::EtaClock => eta_clock_text(alloc, has_hours(numbers), eta(numbers)),
         Placeholder::Rate => rate_text(alloc, numbers),
-        Placeholder::Unmeasured => Ok(Vec::from_slice(alloc, b"?".as_slice())?),
+        Placeholder::Recent => recent_text(alloc, numbers.recent),
     }
 }
 

@@ -1,6 +1,6 @@
 -- Marks on their way through a ring. Serves src/feed.rt, src/tap.rt, src/line_progress.rt and src/laws.rt.
 use Rattle.std.proofs.Common.{ℕ, ◌≤◌, List, length, take, drop, sym, ap, subst, ◌∙◌, arith}
-use Rattle.std.proofs.lemmas.List.{length-append, take-append-le, take-append-drop}
+use Rattle.std.proofs.lemmas.List.{length-append, length-take-le, take-append-le, take-append-drop, take-take}
 use Rattle.plan_machine.specs.declared.event.Mark.{Mark}
 use Rattle.plan_status.specs.declared.tap.Feed.{Feed}
 use Rattle.plan_status.specs.Live.{EndsStay, FeedStays, FeedsJoin, IsFed, LineProgressStays, ShownIsFree, UnusedIsFed}
@@ -46,6 +46,13 @@ feeds_join f g h one other = (
   (other.0.0 ∙ one.0.0, other.0.1 ∙ one.0.1, other.0.2 ∙ one.0.2, other.0.3 ∙ one.0.3),
   other.1 ∙ one.1,
 )
+
+-- a feed that has no more than the first n of all marks has the first of these
+pub fed_of_first : (n : ℕ) (marks : List Mark) (f : Feed) → n ≤ length marks → f.shown ≤ n → IsFed marks f → IsFed (take n marks) f
+fed_of_first n marks f within few fed = record {
+  within = subst (λ (k : ℕ). f.shown ≤ k) (sym (length-take-le n marks within)) few;
+  sent = fed.sent ∙ sym (take-take f.shown n marks few);
+}
 
 -- a feed that has the first of n marks has the first of all marks
 pub fed_of_all : (n : ℕ) (marks : List Mark) (f : Feed) → n ≤ length marks → IsFed (take n marks) f → IsFed marks f

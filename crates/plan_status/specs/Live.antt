@@ -1,5 +1,5 @@
 -- Marks on their way from lanes to who prints: what a feed has put into its ring, and what a tap has taken out of it.
-use Rattle.std.specs.Prelude.{◌≡◌, ℕ, ◌≤◌, List, [], ◌++◌, None, length, take}
+use Rattle.std.specs.Prelude.{◌≡◌, ℕ, ◌≤◌, ◌+◌, List, [], ◌++◌, None, length, take}
 use Rattle.rtrb.specs.Ring.{IsPair, SameConsumer, SameProducer, received, sent}
 use Rattle.plan_image.specs.declared.image.Parts.{Parts}
 use Rattle.plan_machine.specs.declared.event.Mark.{Mark}
@@ -33,11 +33,12 @@ pub record IsUntapped (t : Tap) : Type 0 where
   pub received : received t.ring ≡ []
   pub stop : t.stop ≡ None
 
--- The feed has the first marks: at most those up to the last mark after which no console edge holds a job token.
+-- The feed has the first marks: at most those up to the last mark after which no console edge holds a job token, and the
+-- one after it.
 pub record IsLineProgress (p : Parts) (marks : List Mark) (s : LineProgress) : Type 0 where
   pub looked : HasLooked p marks s.consoles
   pub fed : IsFed marks s.feed
-  pub behind : s.feed.shown ≤ s.consoles.free
+  pub behind : s.feed.shown ≤ s.consoles.free + 1
 
 -- ---- laws
 
@@ -52,9 +53,9 @@ LineProgressStays = (p : Parts) (marks more : List Mark) (s : LineProgress) → 
 abbrev pub UnusedIsFed : Type 0
 UnusedIsFed = (marks : List Mark) (f : Feed) → IsUnused f → IsFed marks f
 
--- what is shown is free
+-- what is shown is free, but for one mark after the free ones
 abbrev pub ShownIsFree : Type 0
-ShownIsFree = (p : Parts) (marks : List Mark) (s : LineProgress) (n : ℕ) → IsLineProgress p marks s → AreFree p marks n → s.feed.shown ≤ n
+ShownIsFree = (p : Parts) (marks : List Mark) (s : LineProgress) (n : ℕ) → IsLineProgress p marks s → AreFree p marks n → s.feed.shown ≤ n + 1
 
 -- ends stay ends, and the same end stays the same
 abbrev pub EndsStay : Type 0

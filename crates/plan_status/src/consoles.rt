@@ -1,6 +1,6 @@
 //! Console edges, whose commands have the terminal to themselves: which of them hold job tokens.
 
-ghost use Rattle.std.specs.Prelude.{◌≡◌, IfOk, false, get_or, option_map, slice_set};
+ghost use Rattle.std.specs.Prelude.{◌≡◌, ◌≤◌, ◌+◌, ℕ, IfOk, false, get_or, option_map, slice_set};
 ghost use Rattle.plan_machine.specs.declared.event.Mark.{Mark as Told};
 ghost use Rattle.plan_status.specs.Consoles.{AreFree, AreNoted, HasLooked, is_console, is_console_name};
 ghost use Rattle.plan_status.specs.Trues.{trues};
@@ -21,7 +21,7 @@ fn is_console_name(pool: Option<&Pool>) -> bool
 }
 
 /// Checks whether an edge's pool has the name `console`.
-fn in_console(parts: &Parts, edge: u32) -> bool
+pub fn in_console(parts: &Parts, edge: u32) -> bool
     ensures { result ≡ is_console parts.now edge }
 {
     let Some(edge) = parts.edges.get(edge as usize) else {
@@ -73,8 +73,18 @@ fn flag_at(flags: &[bool], at: usize) -> bool
     }
 }
 
+/// Adds one to a number, but at most up to `most`.
+fn one_more(number: usize, most: usize) -> usize
+    requires { number ≤ most }
+    ensures more { result ≤ number + 1 }
+    ensures most { (n : ℕ) → n ≤ number + 1 → n ≤ most → n ≤ result }
+    ensures within { result ≤ most }
+{
+    if number < most { number + 1 } else { number }
+}
+
 impl Consoles {
-    ghost use Rattle.std.specs.Prelude.{◌≡◌, ◌≤◌, ◌+◌, ◌∷◌, [], ◌++◌, List, IfOk, false, get_or, length, slice_set, true};
+    ghost use Rattle.std.specs.Prelude.{◌≡◌, ◌≤◌, ◌+◌, ◌∷◌, [], ◌++◌, ℕ, List, IfOk, false, get_or, length, slice_set, true};
     ghost use Rattle.plan_machine.specs.declared.event.Mark.{Mark as Told};
     ghost use Rattle.plan_status.specs.Consoles.{AreFree, AreNoted, HasLooked, is_console};
     ghost use Rattle.plan_status.specs.Trues.{trues};
@@ -144,11 +154,22 @@ impl Consoles {
             }
         }
     }
+
+    /// Returns how many of these marks may be shown after it has looked at them: the free ones, and the one after them,
+    /// by which a console edge takes its job token.
+    pub(crate) fn shown(&self, marks: &[Mark]) -> usize
+        requires { self.now.free ≤ length marks.now }
+        ensures more { result ≤ self.now.free + 1 }
+        ensures most { (n : ℕ) → n ≤ self.now.free + 1 → n ≤ length marks.now → n ≤ result }
+        ensures within { result ≤ length marks.now }
+    {
+        one_more(self.free, marks.len())
+    }
 }
 
 /// Returns how many marks of a run, from the first on, may be reported while it goes on: the greatest number of them
-/// after which no console edge holds a job token, so that its command isn't running. Lines of other marks wait until it
-/// has ended.
+/// after which no console edge holds a job token, so that its command isn't running. The mark after them may be reported
+/// too: by it a console edge takes its job token. Lines of other marks wait until its command has ended.
 ///
 /// # Errors
 /// `AllocError` if memory runs out.

@@ -117,7 +117,7 @@ pub fn lines_are_printed()
 }
 
 /// A feed for the marks of one run, with the console edges that hold job tokens. While a console command runs, no mark
-/// is put in.
+/// is put in after the one by which its edge took its job token.
 #[derive(Drop)]
 pub struct LineProgress {
     pub(crate) feed: Feed,
@@ -152,7 +152,8 @@ impl LineProgress {
         ensures same { SameFeed self.old.feed self.new.feed }
     {
         self.consoles.look(image.image().parts(), marks);
-        self.feed.show(&marks[..self.consoles.free]);
+        let count = self.consoles.shown(marks);
+        self.feed.show(&marks[..count]);
     }
 
     /// Returns the feed.

@@ -33,7 +33,7 @@ pub(crate) fn join_laws()
 }
 
 /// States that what is fed or shown of the marks so far is so of more marks too, that a feed into which nothing was put
-/// suits any run, and that no line is shown after a mark after which a console edge held a job token.
+/// suits any run, and that no mark is shown after one by which a console edge took its job token, until it releases it.
 pub fn marks_may_come()
     ensures fed { FeedStays }
     ensures unused { UnusedIsFed }

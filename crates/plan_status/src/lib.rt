@@ -23,7 +23,7 @@ mod outcomes;
 mod printing;
 mod tap;
 
-pub use consoles::{Consoles, free_marks, is_console};
+pub use consoles::{Consoles, free_marks, in_console, is_console};
 pub use fault::PrintFault;
 pub use format::{Format, LineProgress, StatusLines, lines_are_printed};
 pub use laws::{ends_stay, lines_join, marks_may_come, prints_join};
