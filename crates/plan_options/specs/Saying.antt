@@ -1,5 +1,5 @@
 -- The meaning of all arguments of a command line together. If an option comes more than once, the last one counts.
-use Rattle.std.specs.Prelude.{ℕ, zero, suc, ◌==◌, Bool, true, false, List, [], ◌∷◌, Option, Some, None, filter_map, find, is_some, option_and_then, if◌then◌else◌}
+use Rattle.std.specs.Prelude.{ℕ, zero, suc, ◌==◌, Bool, true, false, List, [], ◌∷◌, Option, Some, None, bytes_eq, codes, filter_map, find, is_some, option_and_then, if◌then◌else◌}
 use Rattle.std.specs.List.{list_any}
 use Rattle.plan_options.specs.declared.argument.Flag.{Flag}
 use Rattle.plan_options.specs.declared.argument.Flag.TheVariants as flag
@@ -47,6 +47,15 @@ verbosity_of other = None
 -- The last of `-v` and `--quiet`.
 abbrev pub verbosity : List Argument → Option Flag
 verbosity arguments = last_found verbosity_of arguments
+
+-- Whether an argument is `-d explain`.
+abbrev pub is_explain : Argument → Bool
+is_explain (argument.Setting setting.Mode value) = bytes_eq value (codes "explain")
+is_explain other = false
+
+-- Whether one of the arguments is `-d explain`.
+abbrev pub is_explained : List Argument → Bool
+is_explained arguments = list_any is_explain arguments
 
 -- Whether an argument is `-n`.
 abbrev pub is_dry : Argument → Bool

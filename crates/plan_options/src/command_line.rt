@@ -122,6 +122,28 @@ fn last_verbosity(arguments: &[Argument]) -> Option<Flag>
     last
 }
 
+/// Checks whether an argument is `-d explain`.
+fn is_explain(argument: &Argument) -> bool
+    ensures { result ≡ defined.is_explain argument.now }
+{
+    match argument {
+        Argument::Setting(Setting::Mode, value) => value.as_slice() == b"explain".as_slice(),
+        _ => false,
+    }
+}
+
+/// Checks whether one of these arguments is `-d explain`.
+fn has_explain(arguments: &[Argument]) -> bool
+    ensures { result ≡ defined.is_explained arguments.now }
+{
+    for at in 0..arguments.len() {
+        if is_explain(&arguments[at]) {
+            return true;
+        }
+    }
+    false
+}
+
 /// Checks whether an argument is `-n`.
 fn is_dry(argument: &Argument) -> bool
     ensures { result ≡ defined.is_dry argument.now }
@@ -206,6 +228,13 @@ impl CommandLine {
         ensures { result ≡ defined.verbosity self.now }
     {
         last_verbosity(self.arguments())
+    }
+
+    /// Checks whether `-d explain` is there. Then the reason is shown why each command runs.
+    pub fn is_explained(&self) -> bool
+        ensures { result ≡ defined.is_explained self.now }
+    {
+        has_explain(self.arguments())
     }
 
     /// Checks whether `-n` is there. No command may run then, and nothing may be changed.

@@ -1,4 +1,4 @@
--- What a world over another one may reply, and the stamps that it keeps.
+-- The replies of a world that wraps another one, and the stamps that it keeps.
 use Rattle.std.specs.Prelude.{ℕ, List}
 use Rattle.plan_verify.specs.Turn.{Request}
 use Rattle.plan_machine.specs.declared.event.reply.Reply.{Reply}
@@ -8,7 +8,7 @@ use Rattle.plan_lanes.specs.Journals.{Rule}
 abbrev pub AllowsOnce : Rule → Request → Reply → Type 0
 AllowsOnce rule question reply = (n : ℕ) × rule n question reply
 
--- a stamp that is kept: the path that it is of, the stamp, and how many commands had begun when it was asked for
+-- a kept stamp: its path, the stamp, and the number of commands that had begun when it was asked for
 pub record Kept : Type 0 where
   pub path : List ℕ
   pub stamp : ℕ

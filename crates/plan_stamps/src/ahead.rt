@@ -9,10 +9,11 @@ use std::sync::atomic::{AtomicBool, AtomicUsize, Ordering};
 use std::thread;
 use std::thread::Threads;
 
-/// How many outputs a thread takes at once.
+/// The number of outputs that a thread takes at once.
 const SOME: usize = 32;
 
-/// Takes the next outputs, some at a time. Returns the first and the one behind the last of them. None if none is left.
+/// Takes the next outputs, some at a time. Returns the index of the first one, and the index after the last one.
+/// Returns None if no output is left.
 fn next_of(taken: &AtomicUsize, count: usize) -> Option<(usize, usize)> {
     let first = taken.fetch_add(SOME, Ordering::SeqCst);
     if first >= count {
@@ -22,7 +23,7 @@ fn next_of(taken: &AtomicUsize, count: usize) -> Option<(usize, usize)> {
 }
 
 impl<R: Wait, W: World> StampCache<'_, R, W> {
-    /// Asks for the stamps of an output and of the paths that its command read when it ran last.
+    /// Asks for the stamps of an output and of the paths that its command read in its last run.
     fn ask_for(&self, output: &[u8]) {
         self.stat_ahead(output);
         let Ok(Reply::Entry(recorded)) = self.recall(0, output) else {
@@ -34,7 +35,7 @@ impl<R: Wait, W: World> StampCache<'_, R, W> {
         }
     }
 
-    /// Asks for the stamps of these outputs. It stops if a command has begun, or if nobody wants them any more.
+    /// Asks for the stamps of these outputs. Stops if a command has begun, or if `is_over` is set.
     fn ask_for_each(&self, outputs: &RowList<u8>, first: usize, end: usize, is_over: &AtomicBool) {
         for number in first..end {
             if self.has_begun() || is_over.load(Ordering::SeqCst) {
@@ -56,9 +57,10 @@ impl<R: Wait, W: World> StampCache<'_, R, W> {
 }
 
 impl<R: Threads + Wait + Sync, W: World + Send + Sync> StampCache<'_, R, W> {
-    /// Asks for the stamps of outputs that the record has entries of, and of the paths that it has for each, by this many
-    /// threads. So a build that begins meanwhile finds them. It ends when a command begins, since a build asks anew from
-    /// then on, or when nobody wants stamps any more. A stamp that can't be had is left to the build.
+    /// Asks for the stamps of outputs that the record has entries of, and of the recorded paths of each, by this many
+    /// threads. So a build that begins meanwhile finds these stamps. Returns when all were asked for, when a command
+    /// begins, since a build asks again from then on, or when `is_over` is set. If a stamp can't be determined, the
+    /// build asks for it.
     pub fn ask_ahead(&self, outputs: &RowList<u8>, threads: usize, is_over: &AtomicBool) {
         let taken = AtomicUsize::new(0);
         thread::scope(thread::scope_env(), self.rt(), |scope| {

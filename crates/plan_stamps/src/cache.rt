@@ -1,4 +1,4 @@
-//! The world over another one.
+//! A world that caches the stamps of another world.
 
 ghost use Rattle.std.specs.Prelude.{◌≡◌, IfOk, IfSome};
 ghost use Rattle.plan_machine.specs.declared.event.reply.Reply.TheVariants.{Stamp};
@@ -21,8 +21,8 @@ struct Inner<W> {
 }
 
 impl<W: World> Inner<W> {
-    /// Asks for the stamp of a path. Without a number it asks before the question has one; then a path without a stamp
-    /// counts as `AllocError`.
+    /// Asks for the stamp of a path. If there is no number, the question doesn't have one yet. In this case, returns
+    /// `AllocError` if the path has no stamp.
     fn stat(&self, number: Option<u64>, path: &[u8]) -> Result<Reply, AllocError>
         ensures { IfOk result (λ r. AllowsOnce W.allows (Stat path.now) r) }
     {
@@ -50,7 +50,7 @@ impl<W: World> Inner<W> {
         self.world.run(number, command, outputs, permit)
     }
 
-    /// Keeps in the record what an output was made from. This was counted like a command.
+    /// Keeps the entry of an output in the record. The caller has counted this like a command.
     fn keep(
         &self,
         running: &Running,
@@ -67,8 +67,8 @@ impl<W: World> Inner<W> {
     }
 }
 
-/// A world over another one, which asks for the stamp of a path once while no command runs. It answers from a stamp that it
-/// kept, if no command is running and none has begun since the inner world was asked.
+/// Wraps another world, and asks it for the stamp of a path only once while no command runs. Replies with a kept stamp
+/// if no command is running and none has begun since the inner world was asked.
 #[derive(Drop)]
 pub struct StampCache<'a, R, W: World> {
     rt: &'a R,
@@ -79,7 +79,7 @@ pub struct StampCache<'a, R, W: World> {
 }
 
 impl<'a, R, W: World> StampCache<'a, R, W> {
-    /// Creates a world over another one, with room for this many stamps.
+    /// Wraps a world, with room for this many stamps.
     ///
     /// # Errors
     /// `AllocError` if memory runs out.
@@ -121,7 +121,7 @@ impl<'a, R, W: World> StampCache<'a, R, W> {
 }
 
 impl<R: Wait, W: World> StampCache<'_, R, W> {
-    /// Keeps a stamp for others who ask in the same moment. Without memory it isn't kept.
+    /// Keeps a stamp for later questions in the same moment. If memory runs out, the stamp isn't kept.
     fn keep_stamp(&self, path: &[u8], stamp: u64, moment: &Moment)
         requires { AllowsOnce W.allows (Stat path.now) (Stamp stamp) }
     {
@@ -169,6 +169,12 @@ impl<R: Wait, W: World> World for StampCache<'_, R, W> {
         W::keeps_journal()
     }
 
+    ghost observes = { W.observes };
+
+    fn observes() -> bool {
+        W::observes()
+    }
+
     fn stat(&self, number: u64, path: &[u8]) -> Result<Reply, AllocError> {
         self.look(Some(number), path)
     }
@@ -182,6 +188,10 @@ impl<R: Wait, W: World> World for StampCache<'_, R, W> {
 
     fn recall(&self, number: u64, output: &[u8]) -> Result<Reply, AllocError> {
         self.inner.world.recall(number, output)
+    }
+
+    fn explain(&self, edge: &[u8], reason: &[u8]) {
+        self.inner.world.explain(edge, reason);
     }
 
     fn run(

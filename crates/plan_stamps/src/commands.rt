@@ -4,14 +4,14 @@ ghost use Rattle.std.specs.Prelude.{◌≡◌, IfSome};
 
 use std::sync::atomic::{AtomicU64, Ordering};
 
-/// A moment in which no command was running: how many had begun by then, and how many had ended.
+/// A moment in which no command was running: the numbers of commands that had begun and that had ended by then.
 #[derive(Clone, Copy)]
 pub struct Moment {
     begun: u64,
     ended: u64,
 }
 
-/// Returns the moment of two numbers of commands. None if a command was running.
+/// Returns the moment of two numbers of commands. Returns None if a command was running.
 fn moment_of(begun: u64, ended: u64) -> Option<Moment>
     ensures { IfSome result (λ m. (m.begun ≡ begun) × (m.begun ≡ m.ended)) }
 {
@@ -36,7 +36,7 @@ pub struct Running {
     begun: u64,
 }
 
-/// How many commands have begun, and how many have ended. Both numbers only grow.
+/// The number of commands that have begun, and of those that have ended. Both numbers only grow.
 #[derive(Drop)]
 pub struct Commands {
     begun: AtomicU64,
@@ -44,7 +44,7 @@ pub struct Commands {
 }
 
 impl Commands {
-    /// Creates the numbers of no command.
+    /// Creates the counters, both 0.
     pub fn new() -> Commands {
         Commands {
             begun: AtomicU64::new(0),
@@ -52,8 +52,9 @@ impl Commands {
         }
     }
 
-    /// Returns a moment within this call in which no command was running. None if none was found. The number of ended
-    /// commands is read first: if the number of begun ones is the same afterwards, no command was running at that time.
+    /// Returns a moment within this call in which no command was running. Returns None if it found none. The number of
+    /// ended commands is read first. If the number of begun commands is the same after that, no command was running at
+    /// that time.
     pub fn quiet(&self) -> Option<Moment>
         ensures { IfSome result (λ m. m.begun ≡ m.ended) }
     {

@@ -54,14 +54,14 @@ impl<W: World> KeptStamp<W> {
         })
     }
 
-    /// Checks whether it is of a path, and no command has begun between its question and a moment.
+    /// Checks whether the stamp is of this path, and no command has begun between its question and a moment.
     pub fn answers(&self, path: &[u8], moment: &Moment) -> bool
         ensures { result ≡ true → (self.now.path ≡ path.now) × (self.now.begun ≡ moment.now.begun) }
     {
         self.begun == moment.begun_count() && self.path.as_slice() == path
     }
 
-    /// Checks whether it is of a path.
+    /// Checks whether the stamp is of this path.
     pub fn is_of(&self, path: &[u8]) -> bool
         ensures { result ≡ true → self.now.path ≡ path.now }
     {
@@ -78,7 +78,8 @@ impl<W: World> KeptStamp<W> {
 }
 
 /// A hash table of stamps. Entries are only added, so it is read without a lock. An entry is a word and an item of the
-/// list: half of the path's hash, and the item's index. Words are hints only: the item's own path and number are compared.
+/// list: half of the path's hash, and the item's index. Words are hints only: the item's own path and number are
+/// compared.
 #[derive(Drop)]
 pub struct StampTable<W: World> {
     words: Vec<AtomicU64>,
@@ -90,11 +91,11 @@ pub struct StampTable<W: World> {
     offered: AtomicU64,
 }
 
-/// How many words are tried for a path.
+/// The number of words that are tried for a path.
 const WAYS: usize = 8;
 
-/// How many stamps are not kept between two commands. There are few questions between most commands, and a stamp that is
-/// kept takes memory to the end.
+/// The number of stamps after a command that are not kept. There are few questions between most commands, and a kept
+/// stamp takes memory until the end.
 const SHORT: u64 = 1_024;
 
 /// Returns the hash of a path.
@@ -156,7 +157,7 @@ impl<W: World> StampTable<W> {
             .get(((word & 0xffff_ffff) as usize).wrapping_sub(1))
     }
 
-    /// Returns the stamp of a path that was asked for in this moment. None if none was kept.
+    /// Returns the kept stamp of a path that was asked for in this moment. Returns None if there is none.
     pub fn find(&self, path: &[u8], moment: &Moment) -> Option<&KeptStamp<W>>
         ensures { IfSome result (λ k. (k.now.path ≡ path.now) × (k.now.begun ≡ moment.now.begun)) }
     {
@@ -173,7 +174,7 @@ impl<W: World> StampTable<W> {
         None
     }
 
-    /// Counts a stamp that is offered, and checks whether it is to be kept: before the first command, or if many were
+    /// Counts a stamp that is offered, and checks whether to keep it: before the first command, or if many stamps were
     /// offered in this moment.
     pub fn is_wanted(&self, moment: &Moment) -> bool {
         if moment.begun_count() == 0 {

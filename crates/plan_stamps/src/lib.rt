@@ -1,4 +1,4 @@
-//! A world over another one, which asks for the stamp of a path once while no command runs.
+//! Wraps another world, and asks it for the stamp of a path only once while no command runs.
 #![tactic(auto)]
 
 mod ahead;

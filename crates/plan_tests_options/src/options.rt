@@ -106,3 +106,12 @@ fn words_of_tools(rt: HostRuntime) -> Result<(), Fail> {
     assert!(rt; !CommandLine::read(rt.alloc(), &[b"-t", b"clean", b"-n"])?.is_dry_run());
     Ok(())
 }
+
+#[test]
+fn explained(rt: HostRuntime) -> Result<(), Fail> {
+    let words: [&[u8]; 4] = [b"-dexplain", b"a", b"-d", b"stats"];
+    assert!(rt; CommandLine::read(rt.alloc(), &words)?.is_explained());
+    assert!(rt; !CommandLine::read(rt.alloc(), &[b"-d", b"stats"])?.is_explained());
+    assert!(rt; !CommandLine::read(rt.alloc(), &[b"-w", b"explain"])?.is_explained());
+    Ok(())
+}

@@ -31,7 +31,7 @@ fn asked_once(rt: HostRuntime) -> Result<(), Fail> {
     Ok(())
 }
 
-/// No stamp is asked for ahead after a command has begun, after the build has ended, or without a thread.
+/// Checks that no stamp is asked for ahead after a command has begun, after the build has ended, or without a thread.
 #[test]
 fn nothing_is_asked(rt: HostRuntime) -> Result<(), Fail> {
     let outputs = outputs_in(rt.alloc())?;

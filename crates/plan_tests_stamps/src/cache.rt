@@ -90,7 +90,7 @@ fn many_questions_between_two_commands(rt: HostRuntime) -> Result<(), Fail> {
     Ok(())
 }
 
-/// A fault isn't kept: its path is asked for each time.
+/// Checks that a fault isn't kept: its path is asked for each time.
 #[test]
 fn faults_are_asked_for_again(rt: HostRuntime) -> Result<(), Fail> {
     let cache = cache_of(&rt, 64, 0)?;
@@ -101,7 +101,7 @@ fn faults_are_asked_for_again(rt: HostRuntime) -> Result<(), Fail> {
     Ok(())
 }
 
-/// A table that was created with room 0 keeps few stamps, and all replies are still right.
+/// Checks that a table that was created with room 0 keeps few stamps, and that all replies are still right.
 #[test]
 fn full_table(rt: HostRuntime) -> Result<(), Fail> {
     let cache = cache_of(&rt, 0, 0)?;
@@ -114,8 +114,8 @@ fn full_table(rt: HostRuntime) -> Result<(), Fail> {
     Ok(())
 }
 
-/// A stamp that is asked for ahead is kept, and a kept stamp is returned ahead. After a command, paths are asked for
-/// again. A path without a stamp is asked for each time.
+/// Checks that a stamp that is asked for ahead is kept, and that a kept stamp is returned ahead. After a command, paths
+/// are asked for again. A path without a stamp is asked for each time.
 #[test]
 fn stamps_ahead(rt: HostRuntime) -> Result<(), Fail> {
     let cache = cache_of(&rt, 64, 0)?;

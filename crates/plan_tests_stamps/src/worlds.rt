@@ -72,6 +72,10 @@ impl<C: Clock + AllocGlobal> World for CountingWorld<C> {
         false
     }
 
+    fn observes() -> bool {
+        false
+    }
+
     fn stat(&self, _number: u64, path: &[u8]) -> Result<Reply, AllocError> {
         self.asked.fetch_add(1, Ordering::SeqCst);
         if path.is_empty() {

@@ -47,7 +47,7 @@ kept_suits_no_run = refl
 exit_suits_no_keep : suits (Keep [] [] 0 []) (answer_of (Exit 0)) ≡ false
 exit_suits_no_keep = refl
 
--- ---- the record beside other builders
+-- ---- a record to which other builders append too
 
 -- one entry of another builder comes between
 others_between : EndsWith (begun (97 ∷ []) ∷ []) (begun (97 ∷ []) ∷ begun (98 ∷ []) ∷ edge_entry (97 ∷ []) (116 ∷ []) 7 [] ∷ []) (edge_entry (97 ∷ []) (116 ∷ []) 7 [])

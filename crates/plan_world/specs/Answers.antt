@@ -1,4 +1,4 @@
--- What the real world may answer.
+-- The replies that the real world may give.
 use Rattle.std.specs.Prelude.{◌≡◌, ◌⊎◌, ℕ, ◌≤◌, true, List, [], length, Option, IsUtf8, ℤ}
 use Rattle.std.specs.declared.alloc.Global.{Global}
 use Rattle.std.specs.declared.process.command.Command.{Command}
@@ -16,13 +16,14 @@ pub record IsAnswer (question : Request) (r : Reply) : Type 0 where
   pub suits : suits question (answer_of r) ≡ true
   pub short : (bytes : List ℕ) → r ≡ reply.Bytes bytes → length bytes ≤ longest
 
--- a command without outputs isn't started, nor one that isn't UTF-8, in its outputs too
+-- a command isn't started if it has no outputs, or if its text or one of its outputs isn't UTF-8
 pub record StartsTexts (command : List ℕ) (outputs : List (List ℕ)) (r : Reply) : Type 0 where
   pub some : outputs ≡ [] → r ≡ reply.NotStarted
   pub paths : ¬ (AreTexts outputs) → r ≡ reply.NotStarted
   pub text : ¬ (IsUtf8 command) → r ≡ reply.NotStarted
 
--- A command wasn't started, or a shell was that runs just this command; it ended, and the reply is what its status says.
+-- The command wasn't started. Or a shell that runs exactly this command was started and ended, and the reply is its
+-- exit status.
 abbrev pub IsByShell : (ended : Command Global → Option ℤ → Type 0) → (command : List ℕ) → Reply → Type 0
 IsByShell ended command r =
     (r ≡ reply.NotStarted)
@@ -33,7 +34,7 @@ abbrev pub NamesAskable : Reply → Type 0
 NamesAskable (reply.Entry recorded) = AreAskable recorded.paths
 NamesAskable r = Unit {0}
 
--- of what isn't UTF-8 nothing is known, and nothing is started
+-- files with a path that isn't UTF-8 are not looked up, and commands that aren't UTF-8 are not started
 abbrev pub IsOfTexts : Request → Reply → Type 0
 IsOfTexts (Stat path) r = ¬ (IsUtf8 path) → r ≡ reply.Fault
 IsOfTexts (Recall output) r = NamesAskable r
@@ -41,12 +42,12 @@ IsOfTexts (Run command outputs) r = StartsTexts command outputs r
 IsOfTexts (Deps path) r = ¬ (IsUtf8 path) → r ≡ reply.Fault
 IsOfTexts (Keep output command basis paths) r = Unit {0}
 
--- the reply to a command is by a shell that ran it
+-- the reply to a command comes from a shell that ran it
 abbrev pub IsRun : (ended : Command Global → Option ℤ → Type 0) → Request → Reply → Type 0
 IsRun ended (Run command outputs) r = IsByShell ended command r
 IsRun ended question r = Unit {0}
 
--- the rule of this world, whose shells say what it means that one ended
+-- the rule of this world; its shells define what it means that a shell ended with a status
 pub record MayAnswer (ended : Command Global → Option ℤ → Type 0) (question : Request) (r : Reply) : Type 0 where
   pub answer : IsAnswer question r
   pub texts : IsOfTexts question r

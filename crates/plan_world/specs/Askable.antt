@@ -22,12 +22,12 @@ pub record IsAskable (path : List ℕ) : Type 0 where
 abbrev pub AreAskable : List (List ℕ) → Type 0
 AreAskable paths = (number : ℕ) → number < length paths → IsAskable (get_or paths number [])
 
--- What is replied of an entry that says this: the same, or nothing if it names a path that can't be asked about, since
--- then it is spoilt.
+-- The reply for an entry with these contents: the same, or `Nothing` if the system can't be asked about one of its
+-- paths. Such an entry is spoilt.
 abbrev pub RecallsAs : Recording → Reply → Type 0
 RecallsAs said r = (AreAskable said.paths × (r ≡ reply.Entry said)) ⊎ (¬ (AreAskable said.paths) × (r ≡ reply.Nothing))
 
--- what is replied of the entry that was found, or of none
+-- the reply for the entry that was found, or for no entry
 abbrev pub IsRecalled : Option EntryData → Reply → Type 0
 IsRecalled None r = r ≡ reply.Nothing
 IsRecalled (Some e) r = RecallsAs (record { command = e.command; basis = e.basis; paths = e.paths }) r

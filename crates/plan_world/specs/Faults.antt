@@ -5,10 +5,10 @@ use Rattle.std.specs.declared.io.ErrorKind.TheVariants.{NotFound, NotADirectory}
 use Rattle.plan_machine.specs.declared.event.reply.Reply.{Reply}
 use Rattle.plan_machine.specs.declared.event.reply.Reply.TheVariants.{Fault}
 
--- there is no file of that path, or something above it is no folder
+-- there is no file at that path, or a path above it isn't a folder
 abbrev pub IsMissing : ErrorKind → Type 0
 IsMissing kind = (kind ≡ NotFound) ⊎ (kind ≡ NotADirectory)
 
--- this reply if it is missing, otherwise that it can't be known
+-- this reply if the file is missing, otherwise `Fault`
 abbrev pub IsToldOf : ErrorKind → (missing told : Reply) → Type 0
 IsToldOf kind missing told = (IsMissing kind × (told ≡ missing)) ⊎ (¬ (IsMissing kind) × (told ≡ Fault))

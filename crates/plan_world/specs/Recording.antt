@@ -1,4 +1,4 @@
--- What is kept of the record's file while it is open.
+-- The state of the record's file while it is open.
 use Rattle.std.specs.Prelude.{◌≡◌, ℕ, Bool, List, [], ◌∷◌, ◌++◌, length, Option}
 use Rattle.std.specs.Io.KnownBytes.{Appends}
 use Rattle.std.specs.List.{flat_map}
@@ -8,8 +8,8 @@ use Rattle.plan_record.specs.Entries.{EntryData, IsGoodFront, spelling}
 abbrev pub edge_entry : (output command : List ℕ) (basis : ℕ) (paths : List (List ℕ)) → EntryData
 edge_entry output command basis paths = record { output = output; command = command; basis = basis; paths = paths }
 
--- The file, the entries that the record has, how many bytes of the file are their spellings, and whether nothing more is
--- written, since a cut failed or the file was removed.
+-- The file, the entries of the record, the number of bytes of their spellings in the file, and whether nothing more is
+-- written because a cut failed or the file was removed.
 pub record Recording (F : Type 0) : Type 0 where
   pub file : F
   pub entries : List EntryData
@@ -19,7 +19,7 @@ pub record Recording (F : Type 0) : Type 0 where
 abbrev pub recording : {F : Type 0} → F → List EntryData → ℕ → Bool → Recording F
 recording file entries good broken = record { file = file; entries = entries; good = good; broken = broken }
 
--- the good front is as long as the spellings of the entries
+-- the good prefix is as long as the spellings of the entries
 abbrev pub IsInStep : (entries : List EntryData) (good : ℕ) → Type 0
 IsInStep entries good = good ≡ length (flat_map spelling entries)
 
@@ -35,6 +35,6 @@ EndsWith old new entry = (others : List EntryData) × (new ≡ old ++ others ++ 
 abbrev pub TakesIn : (bytes : List ℕ) (len : ℕ) (old new : List EntryData) → Type 0
 TakesIn bytes len old new = (others : List EntryData) × IsGoodFront bytes others len × (new ≡ old ++ others)
 
--- the last that was done to the file was to append these bytes
+-- the last operation on the file appended these bytes
 abbrev pub IsWritten : {F : Type 0} → (contents : F → Option (List ℕ)) → F → List ℕ → Type 0
 IsWritten {F} contents file bytes = (before : F) × Appends (contents before) (contents file) bytes

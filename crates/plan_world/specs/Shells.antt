@@ -1,4 +1,4 @@
--- How a command is given to a shell, and what its end means.
+-- How a command is passed to a shell, and what its exit status means.
 use Rattle.std.specs.Prelude.{◌≡◌, ◌≢◌, ℕ, ◌<◌, nat_lt, List, [], ◌∷◌, length, get_or, Option, Some, None, false, if◌then◌else◌, IsUtf8, ℤ, pos}
 use Rattle.std.specs.declared.alloc.Global.{Global}
 use Rattle.std.specs.declared.process.command.Command.{Command}
@@ -18,8 +18,8 @@ shell_words text = (45 ∷ 99 ∷ []) ∷ (45 ∷ 45 ∷ []) ∷ text ∷ []
 abbrev pub record_variable : List ℕ
 record_variable = 80 ∷ 76 ∷ 65 ∷ 78 ∷ 95 ∷ 78 ∷ 73 ∷ 78 ∷ 74 ∷ 65 ∷ 95 ∷ 82 ∷ 69 ∷ 67 ∷ 79 ∷ 82 ∷ 68 ∷ 83 ∷ []
 
--- It runs the shell on this text, in this program's own folder and environment, but that one variable names the records
--- that are locked.
+-- The command runs the shell on this text, in this program's own folder and environment. Only the variable that names
+-- the locked records is set.
 pub record IsShellOf (command : Command Global) (text records : List ℕ) : Type 0 where
   pub program : command_program command ≡ shell
   pub words : command_args command ≡ shell_words text
@@ -28,7 +28,7 @@ pub record IsShellOf (command : Command Global) (text records : List ℕ) : Type
   pub variables : (name : List ℕ) → name ≢ record_variable → command_var command name ≡ None
   pub environment : clears_env command ≡ false
 
--- what a status says; none if a signal ended the command
+-- the reply for an exit code; None if a signal ended the command
 abbrev pub ending : Option ℤ → Reply
 ending (Some (pos status)) = if nat_lt status 256 then reply.Exit status else reply.Signal
 ending _ = reply.Signal

@@ -1,12 +1,12 @@
--- The start entry: what the record says of an edge whose command was started and hasn't succeeded.
+-- The start entry: the entry in the record of an edge whose command was started and hasn't succeeded.
 use Rattle.std.specs.Prelude.{ℕ, List, [], ◌∷◌}
 use Rattle.plan_record.specs.Entries.{EntryData}
 
--- `/dev/null/begun`: no such file can be, since `/dev/null` is no folder
+-- `/dev/null/begun`: this file can't exist, since `/dev/null` isn't a folder
 abbrev pub missing_path : List ℕ
 missing_path = 47 ∷ 100 ∷ 101 ∷ 118 ∷ 47 ∷ 110 ∷ 117 ∷ 108 ∷ 108 ∷ 47 ∷ 98 ∷ 101 ∷ 103 ∷ 117 ∷ 110 ∷ []
 
--- An entry whose command no manifest can have, a NUL byte, and whose only path is always missing: so an edge with this
--- entry is out of date, also where a changed command doesn't count.
+-- An entry whose command is a NUL byte, which no manifest can have, and whose only path is always missing. So an edge
+-- with this entry is out of date, even if a changed command doesn't count.
 abbrev pub begun : (output : List ℕ) → EntryData
 begun output = record { output = output; command = 0 ∷ []; basis = 0; paths = missing_path ∷ [] }

@@ -45,8 +45,8 @@ fn is_whole(path: &[u8]) -> bool
     !path.contains(&0)
 }
 
-/// Checks whether the system can be asked about a path: it answers an error of its own for any other, whatever files
-/// there are.
+/// Checks whether the system can be asked about a path. For any other path the system returns an error, whatever files
+/// exist.
 pub(crate) fn is_askable(path: &[u8]) -> bool
     ensures { IsTrue result ↔ IsAskable path.now }
 {

@@ -10,8 +10,8 @@ use std::rt::Files;
 use std::thread;
 use std::time::{Clock, Duration};
 
-/// The environment variable that names the locks which the builders above a command hold: the device and the inode of
-/// each lock's file, as `DEVICE:INODE`, with blanks between them.
+/// The environment variable that names the locks that the builders above a command hold. It has the device and the
+/// inode of each lock's file, as `DEVICE:INODE`, with blanks between them.
 pub(crate) const VARIABLE: &str = "PLAN_NINJA_RECORDS";
 
 /// How often a builder looks for the lock before it says that it waits.
@@ -20,7 +20,8 @@ const LOOKS: u32 = 100;
 /// The time between two looks, in milliseconds.
 const PAUSE: u64 = 10;
 
-/// The lock of a record, held until it is dropped, or the leave to work without one below the builder that holds it.
+/// The lock of a record, held until this value is dropped, or the permission to work without the lock because a builder
+/// above this one holds it.
 #[derive(Drop)]
 pub(crate) struct BuilderLock<F> {
     /// The file next to the record. None if a builder above holds its lock.
@@ -29,7 +30,7 @@ pub(crate) struct BuilderLock<F> {
     names: String,
 }
 
-/// Checks whether a name is one of those in a text.
+/// Checks whether a name is one of the names in a text.
 pub(crate) fn is_named(names: &str, name: &str) -> bool {
     names.split(' ').any(|one| one == name)
 }
@@ -56,7 +57,7 @@ fn names_with(alloc: Global, names: &str, name: &str) -> Result<String, DeviceFa
     Ok(format!(in alloc; "{names} {name}")?)
 }
 
-/// Waits until no other builder holds the lock of a record. After a second it says once that it waits.
+/// Waits until no other builder holds the lock of a record. After a second, reports once that it waits.
 fn wait_for<R: Clock + Eprint, F: SharedFile>(rt: &R, file: &F, record: &str) -> io::Result<()> {
     for _ in 0..LOOKS {
         if file.try_lock()? {
@@ -68,8 +69,8 @@ fn wait_for<R: Clock + Eprint, F: SharedFile>(rt: &R, file: &F, record: &str) ->
     file.lock()
 }
 
-/// Takes the lock of a record, whose folder must exist. A builder that was started by a command of the builder which
-/// holds it goes on without it, since that one waits for the command; every other builder waits.
+/// Takes the lock of a record, whose folder must exist. If another builder holds the lock, this builder waits. But if
+/// it was started by a command of that builder, it goes on without the lock, since that builder waits for the command.
 ///
 /// # Errors
 /// `Device` if the lock's file, RECORD.lock, can't be opened or locked, and `Memory`.
@@ -101,7 +102,7 @@ where
 }
 
 impl<F> BuilderLock<F> {
-    /// Checks whether this builder holds the lock itself, and not one above it.
+    /// Checks whether this builder itself holds the lock, rather than a builder above it.
     pub(crate) fn is_held(&self) -> bool {
         self.file.is_some()
     }
@@ -125,7 +126,7 @@ pub trait SharedFile {
     fn unlock(&self) -> io::Result<()>;
 }
 
-/// Checks whether an error says that a file may not be written.
+/// Checks whether this kind of error means that a file may not be written.
 fn is_unwritable(kind: ErrorKind) -> bool {
     kind == ErrorKind::PermissionDenied || kind == ErrorKind::ReadOnlyFilesystem
 }

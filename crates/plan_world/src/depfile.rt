@@ -15,14 +15,13 @@ use std::io::Read;
 use std::rt::Files;
 use std::{fs, str};
 
-/// How many bytes are read at once.
+/// The number of bytes that are read at once.
 const PIECE: usize = 65_536;
 
-/// How many bytes of a depfile are read at most: one more than it may have, so that a depfile that is too long is
-/// noticed.
+/// The most bytes that are read of a depfile: one more than it may have, so that a depfile that is too long is noticed.
 const MOST: usize = 16_777_217;
 
-/// Returns the next bytes of a reader, at most this many. There are none only at its end.
+/// Returns the next bytes of a reader, at most `most`. Returns no bytes only at its end.
 fn read_piece<F: Read>(alloc: Global, file: &mut F, most: usize) -> Result<Vec<u8>, DeviceFault>
     requires { 0 < most }
     ensures few { IfOk result (λ piece. length piece.items ≤ most) }
@@ -35,7 +34,7 @@ fn read_piece<F: Read>(alloc: Global, file: &mut F, most: usize) -> Result<Vec<u
     Ok(piece)
 }
 
-/// Reads the first bytes of a reader, at most this many, as a depfile, piece by piece.
+/// Reads the first bytes of a reader, at most `most`, as a depfile, piece by piece.
 fn gather<F: Read>(alloc: Global, file: &mut F, most: usize) -> Result<Gather, DeviceFault>
     ensures { IfOk result (λ gathered. IsFrontOf most gathered (F.remaining file.old) (F.remaining file.new)) }
 {
@@ -73,7 +72,7 @@ fn parse<F: Read>(alloc: Global, file: &mut F) -> Result<Reply, DeviceFault>
 /// Returns the depfile at a path, or `Nothing` if it is missing.
 ///
 /// # Errors
-/// Only that memory ran out. A path that isn't UTF-8, and a file that can't be read, are the reply `Fault`.
+/// `AllocError` if memory runs out. If the path isn't UTF-8 or the file can't be read, the reply is `Fault`.
 pub(crate) fn read_depfile<R: Files + AllocGlobal>(rt: &R, path: &[u8]) -> Result<Reply, AllocError>
     ensures suits { IfOk result (λ r. IsAnswer (Deps path.now) r) }
     ensures no_text { ¬ (IsUtf8 path.now) → result ≡ Ok Fault }

@@ -1,4 +1,4 @@
-//! Why the real world can't be asked.
+//! Errors of the real world.
 
 ghost use Rattle.std.specs.Prelude.{◌≡◌, ◌↔◌, IfOk, IsErr};
 ghost use Rattle.std.specs.IoError.{error_kind};
@@ -11,10 +11,10 @@ use std::alloc::{AllocError, AllocFailed};
 use std::io::{self, ErrorKind};
 use thiserror::Error;
 
-/// Why a record can't be opened.
+/// The reason why a record can't be opened.
 #[derive(Clone, Copy, Debug, PartialEq, Eq, Error)]
 pub enum OpenFault {
-    /// Memory ran out. The record may be good.
+    /// Memory ran out. The record may be intact.
     #[error("memory ran out")]
     Memory,
     /// The record's file can't be created, read or cut.
@@ -37,10 +37,10 @@ impl From<DeviceFault> for OpenFault {
     }
 }
 
-/// Why a file can't be read or written.
+/// The reason why a file can't be read or written.
 #[derive(Clone, Copy, Debug, PartialEq, Eq, Error)]
 pub(crate) enum DeviceFault {
-    /// Memory ran out. The file may be good.
+    /// Memory ran out. The file may be intact.
     #[error("memory ran out")]
     Memory,
     /// The system refused the call, for this reason.
@@ -49,7 +49,7 @@ pub(crate) enum DeviceFault {
     /// One of the parts is too long for an entry.
     #[error("a path or a command is too long")]
     TooLong,
-    /// The record can't be written any more: its file was removed, or could not be cut before.
+    /// The record can't be written any more: its file was removed, or an earlier cut of the file failed.
     #[error("the build record was lost")]
     Lost,
 }
@@ -119,7 +119,7 @@ impl From<io::Error> for DeviceFault {
 }
 
 impl DeviceFault {
-    /// Returns the reply to the question that this fault ended: `otherwise`, or an error if memory ran out.
+    /// Returns the reply to a question that failed with this fault: `otherwise`, or an error if memory ran out.
     pub(crate) fn or_reply(self, otherwise: Reply) -> Result<Reply, AllocError>
         ensures memory { IsErr result ↔ (self ≡ DeviceFault.Memory) }
         ensures device { IfOk result (λ r. r ≡ otherwise) }
@@ -131,7 +131,7 @@ impl DeviceFault {
     }
 }
 
-/// Returns the reply for a file that can't be read or looked up: `missing` if there is none, otherwise `Fault`.
+/// Returns the reply for a file that can't be read or looked up: `missing` if it doesn't exist, otherwise `Fault`.
 pub(crate) fn without(error: io::Error, missing: Reply) -> Result<Reply, AllocError>
     ensures memory { IsErr result ↔ (error_kind error ≡ ErrorKind.OutOfMemory) }
     ensures told { IfOk result (λ r. IsToldOf (error_kind error) missing r) }

@@ -1,9 +1,9 @@
-//! The real world that a running image asks: files, commands, the build record.
+//! The real world of a running image: files, commands and the build record.
 //!
 //! - `RealWorld`: stamps of files, commands run by `/bin/sh`, depfiles, and a record file that is open.
-//! - `Shells`: who starts the shells of commands and waits for them. `SystemShells`: the system's.
+//! - `Shells`: starts the shells of commands and waits for them. `SystemShells`: the shells of the system.
 //! - `OpenFault`: why a record can't be opened.
-//! - `recompact`, `restat`, `recorded_outputs`: what is done with a record between builds.
+//! - `recompact`, `restat`, `recorded_outputs`: rewrite or list a record between builds.
 //! - `SharedFile`: a file with a lock, such as the record's file.
 //!
 //! docs/rules/world.md has the rules one by one.

@@ -1,4 +1,4 @@
-//! Records between builds: they are rewritten, and their outputs are listed.
+//! Rewrites records between builds, and lists their outputs.
 
 use crate::builder_lock::{BuilderLock, SharedFile, take_lock};
 use crate::fault::{DeviceFault, OpenFault};
@@ -12,7 +12,7 @@ use std::io::{Read, Seek, Write};
 use std::rt::Files;
 use std::time::Clock;
 
-/// Takes the lock of a record, and opens it. What is no file gets no lock.
+/// Takes the lock of a record, and opens the record. If it isn't a file, no lock is created.
 pub(crate) fn locked_record<R: Files + Env + Clock + Eprint + AllocGlobal>(
     rt: &R,
     record: &str,
@@ -25,7 +25,7 @@ where
     Ok((lock, open_record(rt, record)?))
 }
 
-/// Returns what became of a request, and says on standard error why the record can't be changed or read.
+/// Returns the result of a request. If the record can't be changed or read, reports the reason on standard error.
 fn report_fault<T, R: Eprint>(
     rt: &R,
     what: &str,
@@ -41,7 +41,7 @@ fn report_fault<T, R: Eprint>(
     }
 }
 
-/// Compacts a record that there is.
+/// Compacts a record, if it exists.
 fn recompact_file<R: Files + Env + Clock + Eprint + AllocGlobal>(
     rt: &R,
     record: &str,
@@ -61,11 +61,12 @@ where
 
 /// Rewrites a record, so that it has only the last entry of each output. If there is no record, none is created.
 ///
-/// It waits while a builder uses the record. Below a builder that holds the record's lock the record stays as it is.
+/// Waits while a builder uses the record. If this program was started by a command of that builder, the record stays as
+/// it is.
 ///
 /// # Errors
 /// `Device` if the record or its lock can't be opened, read or locked, or if the new file can't be written, and
-/// `Memory`. Then the record is as it was.
+/// `Memory`. After an error the record is unchanged.
 pub fn recompact<R: Files + Env + Clock + Eprint + AllocGlobal>(
     rt: &R,
     record: &str,
@@ -81,7 +82,7 @@ where
     )
 }
 
-/// Restates a record that there is.
+/// Restates a record, if it exists.
 fn restat_file<R: Files + Env + Clock + Eprint + AllocGlobal>(
     rt: &R,
     record: &str,
@@ -122,7 +123,7 @@ where
     )
 }
 
-/// Returns the outputs of a record that there is.
+/// Returns the outputs of a record. Returns no outputs if it doesn't exist.
 fn outputs_of_file<R: Files + Env + Clock + Eprint + AllocGlobal>(
     rt: &R,
     record: &str,
@@ -137,10 +138,10 @@ where
     file.outputs(rt.alloc())
 }
 
-/// Returns the outputs that a record has entries of, each once, in the order of their last entries. If there is no
-/// record, there are none, and none is created.
+/// Returns the outputs that a record has entries of, each once, in the order of their last entries. If the record
+/// doesn't exist, returns no outputs, and creates no record.
 ///
-/// It waits while a builder uses the record, unless it is below that builder.
+/// Waits while a builder uses the record, unless this program was started by a command of that builder.
 ///
 /// # Errors
 /// `Device` if the record or its lock can't be opened, read or locked, and `Memory`.

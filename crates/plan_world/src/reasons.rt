@@ -1,10 +1,10 @@
-//! Reasons, said on standard error.
+//! Reports reasons on standard error.
 
 use crate::fault::DeviceFault;
 use std::str;
 
-/// Says on standard error what can't be done with a file, and why. Nothing is said if memory ran out, since the run
-/// then stops and says so itself.
+/// Reports on standard error what can't be done with a file, and why. Reports nothing if memory ran out, since the run
+/// then stops and reports that itself.
 pub(crate) fn say<R: Eprint>(rt: &R, what: &str, file: &[u8], fault: DeviceFault) {
     if fault == DeviceFault::Memory {
         return;

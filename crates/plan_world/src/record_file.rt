@@ -77,7 +77,7 @@ impl<F> Model for RecordFile<F> {
     ghost invariant = { λ r. IsInStep r.entries r.sink.good };
 }
 
-/// Returns all bytes of a file. Room for them is allocated once, by the file's length.
+/// Returns all bytes of a file. Allocates room for them once, by the file's length.
 fn read_all<F: Read + OpenFile>(alloc: Global, file: &mut F) -> Result<Vec<u8>, DeviceFault>
     ensures { IfOk result (λ bytes. IfSome (F.remaining file.old) (λ all. bytes.items ≡ all)) }
 {
@@ -88,8 +88,8 @@ fn read_all<F: Read + OpenFile>(alloc: Global, file: &mut F) -> Result<Vec<u8>, 
     Ok(bytes)
 }
 
-/// Reads the record in a file, from the current position on: the longest prefix that is whole entries. The file is cut
-/// to that prefix if it may be written. Its lock must be held.
+/// Reads the record in a file, from the current position on: the longest prefix that consists of whole entries. Cuts
+/// the file to that prefix if it may be written. The caller must hold the file's lock.
 #[tactic(auto, using(crate::proofs::RecordingLemmas::front_spelled))]
 pub(crate) fn load_file<F>(
     alloc: Global,
@@ -183,7 +183,7 @@ impl<F> RecordFile<F> {
         Ok(outputs_of(alloc, &self.entries.last_entries(alloc)?)?)
     }
 
-    /// Takes in an entry that another builder appended.
+    /// Adds an entry that another builder appended to the file.
     #[tactic(auto, using(crate::proofs::RecordingLemmas::one_more_spelled))]
     fn take_in(&mut self, alloc: Global, entry: &Entry) -> Result<(), DeviceFault>
         ensures taken { OnOk result (self.new.entries ≡ self.old.entries ++ entry.now ∷ []) }
@@ -196,7 +196,7 @@ impl<F> RecordFile<F> {
         Ok(())
     }
 
-    /// Takes in these entries, which other builders appended.
+    /// Adds these entries, which other builders appended to the file.
     fn take_in_each(&mut self, alloc: Global, others: &[Entry]) -> Result<(), DeviceFault>
         ensures taken { OnOk result (self.new.entries ≡ self.old.entries ++ others.now) }
         ensures grows { Grows self.old.entries self.new.entries }
@@ -208,8 +208,8 @@ impl<F> RecordFile<F> {
         Ok(())
     }
 
-    /// Takes in the whole entries at the beginning of bytes that other builders appended, and returns how many bytes
-    /// these entries have.
+    /// Adds the whole entries at the beginning of bytes that other builders appended. Returns the number of bytes of
+    /// these entries.
     fn take_in_all(&mut self, alloc: Global, bytes: Vec<u8>) -> Result<u64, DeviceFault>
         ensures taken { IfOk result (λ len. TakesIn bytes.items len self.old.entries self.new.entries) }
         ensures grows { Grows self.old.entries self.new.entries }
@@ -222,7 +222,7 @@ impl<F> RecordFile<F> {
 }
 
 impl<F: SharedFile> RecordFile<F> {
-    /// Waits for the file's lock and takes it, unless nothing more is to be written.
+    /// Waits for the file's lock and takes it, unless the file can't be written.
     pub(crate) fn lock(&self) -> Result<(), DeviceFault> {
         self.sink.lock()
     }
@@ -234,15 +234,15 @@ impl<F: SharedFile> RecordFile<F> {
 }
 
 impl<F: OpenFile> RecordFile<F> {
-    /// Returns what the system says about the file.
+    /// Returns the metadata of the file.
     pub(crate) fn metadata(&self) -> Result<Metadata, DeviceFault> {
         self.sink.metadata()
     }
 }
 
 impl<F: Read + Seek + OpenFile> RecordFile<F> {
-    /// Takes in what other builders appended since this one read or wrote the file, and cuts off an incomplete entry,
-    /// which a killed builder left. The file's lock must be held.
+    /// Adds the entries that other builders appended since this builder read or wrote the file. Cuts off an incomplete
+    /// entry that a killed builder left. The caller must hold the file's lock.
     pub(crate) fn catch_up(&mut self, alloc: Global) -> Result<(), DeviceFault>
         ensures grows { Grows self.old.entries self.new.entries }
         ensures well { OnOk result (self.new.broken ≡ self.old.broken) }
@@ -257,7 +257,7 @@ impl<F: Read + Seek + OpenFile> RecordFile<F> {
 }
 
 impl<F: Read + Write + Seek + OpenFile + SharedFile> RecordFile<F> {
-    /// Appends an entry to the file, which ends with the last entry. If that fails, the file is cut back.
+    /// Appends an entry to the file, which ends with the last entry. If the write fails, cuts the file back.
     #[tactic(auto, using(crate::proofs::RecordingLemmas::one_more_spelled))]
     fn append(&mut self, alloc: Global, entry: Entry) -> Result<(), DeviceFault>
         ensures kept { OnOk result (self.new.entries ≡ self.old.entries ++ entry ∷ []) }
@@ -279,7 +279,8 @@ impl<F: Read + Write + Seek + OpenFile + SharedFile> RecordFile<F> {
         }
     }
 
-    /// Takes in what other builders appended meanwhile, and appends an entry. The file's lock must be held.
+    /// Adds the entries that other builders appended meanwhile, and appends an entry. The caller must hold the file's
+    /// lock.
     fn keep_last(&mut self, alloc: Global, entry: Entry) -> Result<(), DeviceFault>
         ensures kept { OnOk result (EndsWith self.old.entries self.new.entries entry) }
         ensures written { OnOk result (IsWritten F.contents self.new.file (spelling entry)) }

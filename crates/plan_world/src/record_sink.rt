@@ -1,5 +1,5 @@
-//! The record's file as a sink, and its entries as the machine and the record have them. Other builders append to the
-//! file too, each under its lock.
+//! The record's file as a sink, and conversions between the machine's and the record's forms of an entry. Other
+//! builders append to the file too, under the file's lock.
 
 ghost use Rattle.std.specs.Prelude.{◌≡◌, ◌≤◌, ◌+◌, false, true, IfErr, IfOk, OnErr, OnOk, length, ◌≢◌, map};
 ghost use Rattle.std.specs.Io.KnownBytes.{Appends};
@@ -31,7 +31,7 @@ pub(crate) fn bytes_of(alloc: Global, entry: &Entry) -> Result<Vec<u8>, DeviceFa
     }
 }
 
-/// Writes all bytes by one write, so that what others append can't come between them.
+/// Writes all bytes by one write, so that other builders can't append anything between them.
 fn write_at_once<F: Write>(file: &mut F, bytes: &[u8]) -> Result<(), DeviceFault>
     ensures { OnOk result (Appends (F.contents file.old) (F.contents file.new) bytes.now) }
 {
@@ -43,15 +43,15 @@ fn write_at_once<F: Write>(file: &mut F, bytes: &[u8]) -> Result<(), DeviceFault
 }
 
 /// The record's file, opened to append, or only to be read if it may not be written. Its first `good` bytes are whole
-/// entries, which this builder has read or written. What other builders appended since then comes after them.
+/// entries, which this builder has read or written. Bytes that other builders appended since then come after them.
 #[derive(Drop)]
 pub(crate) struct RecordSink<F> {
     file: F,
-    /// How many bytes at the beginning this builder has read or written.
+    /// The number of bytes at the beginning that this builder has read or written.
     good: u64,
-    /// Whether a cut failed, or the file was removed: then nothing more is written.
+    /// Whether a cut failed or the file was removed. If so, nothing more is written.
     broken: bool,
-    /// Why the file may only be read: then nothing is written. None if it may be written.
+    /// The reason why the file may only be read. If there is one, nothing is written.
     unwritable: Option<ErrorKind>,
 }
 
@@ -88,7 +88,7 @@ impl<F> RecordSink<F> {
 }
 
 impl<F: SharedFile> RecordSink<F> {
-    /// Waits for the file's lock and takes it, unless nothing more is to be written.
+    /// Waits for the file's lock and takes it, unless the file can't be written.
     pub(crate) fn lock(&self) -> Result<(), DeviceFault>
         ensures { OnOk result (self.now.broken ≡ false) }
     {
@@ -109,13 +109,13 @@ impl<F: SharedFile> RecordSink<F> {
 }
 
 impl<F: OpenFile> RecordSink<F> {
-    /// Returns what the system says about the file.
+    /// Returns the metadata of the file.
     pub(crate) fn metadata(&self) -> Result<Metadata, DeviceFault> {
         Ok(self.file.metadata()?)
     }
 
-    /// Cuts the file to its good bytes. If that fails, nothing more is written. The file's lock must be held, since
-    /// nobody else may write meanwhile.
+    /// Cuts the file to its good bytes. If that fails, nothing more is written. The caller must hold the file's lock,
+    /// since no other builder may write meanwhile.
     pub(crate) fn cut(&mut self) -> Result<(), DeviceFault>
         ensures file { self.new.file ≡ self.old.file }
         ensures good { self.new.good ≡ self.old.good }
@@ -131,8 +131,8 @@ impl<F: OpenFile> RecordSink<F> {
         }
     }
 
-    /// Returns how many bytes the file has after its good bytes. If the file is shorter, or was removed, it is another
-    /// record, and nothing more is written.
+    /// Returns how many bytes the file has after its good bytes. If the file is shorter or was removed, the path no
+    /// longer names this record, and nothing more is written.
     fn unread_len(&mut self) -> Result<u64, DeviceFault>
         ensures file { self.new.file ≡ self.old.file }
         ensures good { self.new.good ≡ self.old.good }
@@ -150,7 +150,7 @@ impl<F: OpenFile> RecordSink<F> {
 }
 
 impl<F: Read + Seek + OpenFile> RecordSink<F> {
-    /// Returns the bytes after the good ones, which other builders appended.
+    /// Returns the bytes after the good bytes, which other builders appended.
     pub(crate) fn unread(&mut self, alloc: Global) -> Result<Vec<u8>, DeviceFault>
         ensures good { self.new.good ≡ self.old.good }
         ensures well { OnOk result (self.new.broken ≡ self.old.broken) }
@@ -165,8 +165,8 @@ impl<F: Read + Seek + OpenFile> RecordSink<F> {
 }
 
 impl<F: Write + OpenFile> RecordSink<F> {
-    /// Appends bytes to the file, which ends with its good bytes, and returns the length that it has then. The bytes
-    /// count as good once they are accepted. If not all of them can be written, the file is cut to its good bytes.
+    /// Appends bytes to the file, which ends with its good bytes, and returns the new length. The bytes count as good
+    /// once they are accepted. If not all of them can be written, cuts the file to its good bytes.
     pub(crate) fn put(&mut self, bytes: &[u8]) -> Result<u64, DeviceFault>
         ensures written { OnOk result (Appends (F.contents self.old.file) (F.contents self.new.file) bytes.now) }
         ensures good { self.new.good ≡ self.old.good }
@@ -184,13 +184,13 @@ impl<F: Write + OpenFile> RecordSink<F> {
     }
 }
 
-/// The command that says that an edge was begun: one NUL byte, which no manifest's command has.
+/// The command of a start entry: one NUL byte, which no manifest's command has.
 const BEGUN: [u8; 1] = [0];
 
 /// A path that is always missing, since `/dev/null` is no folder.
 const MISSING: [u8; 15] = *b"/dev/null/begun";
 
-/// Returns what an entry says, apart from its output.
+/// Returns the contents of an entry, except its output.
 pub(crate) fn recorded_of(alloc: Global, entry: &Entry) -> Result<Recorded, DeviceFault>
     ensures said { IfOk result (λ r. r ≡ record { command = entry.now.command; basis = entry.now.basis; paths = entry.now.paths }) }
     ensures memory { IfErr result (λ f. f ≡ DeviceFault.Memory) }
@@ -227,7 +227,7 @@ pub(crate) fn entry_of(
     Ok(Entry::new(alloc, output, command, basis, &paths)?)
 }
 
-/// Checks whether an entry says that its edge was begun.
+/// Checks whether an entry is a start entry: its edge was begun.
 pub(crate) fn is_begun(entry: &Entry) -> bool
     ensures { result ≡ is_begun entry.now }
 {

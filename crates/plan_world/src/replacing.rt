@@ -10,8 +10,8 @@ use std::marker::Model;
 use std::os::unix::fs::{MetadataExt, chown};
 use std::rt::Files;
 
-/// A token: all of these bytes were written to a file and flushed to the disk. Nothing else creates one. Contracts see
-/// the bytes.
+/// A token: all of these bytes were written to a file and flushed to the disk. Nothing else creates this token.
+/// Contracts see the bytes.
 #[derive(Drop)]
 pub(crate) struct Written<'a> {
     bytes: &'a [u8],
@@ -25,7 +25,7 @@ impl<'a> Model for Written<'a> {
     ghost view = { λ w. w.bytes.now };
 }
 
-/// Writes all of the bytes, and waits until they are on the disk.
+/// Writes all bytes, and waits until they are on the disk.
 fn write_whole<'a, F: Write + OpenFile>(
     file: &mut F,
     bytes: &'a [u8],
@@ -38,8 +38,8 @@ fn write_whole<'a, F: Write + OpenFile>(
     Ok(Written { bytes })
 }
 
-/// Creates a file with these bytes, and with the owner and the permissions of another one. An old file of this path is
-/// removed.
+/// Creates a file with these bytes, and with the owner and the permissions of another file. Removes an old file at this
+/// path.
 fn create_like<'a, R: Files>(
     rt: &R,
     path: &str,
@@ -58,7 +58,7 @@ fn create_like<'a, R: Files>(
     write_whole(&mut file, bytes)
 }
 
-/// Renames a file that was written, so that it replaces another one.
+/// Renames a file that was written, so that it replaces another file.
 fn put_in_place<R: Files>(
     rt: &R,
     new: &str,
@@ -69,7 +69,7 @@ fn put_in_place<R: Files>(
     Ok(())
 }
 
-/// Creates a file with these bytes, and renames it, so that it replaces another one.
+/// Creates a file with these bytes, and renames it, so that it replaces another file.
 fn create_in_place<R: Files>(
     rt: &R,
     new: &str,
@@ -81,9 +81,9 @@ fn create_in_place<R: Files>(
     put_in_place(rt, new, path, written)
 }
 
-/// Replaces a file by one with these bytes, and with its owner and its permissions. The new file is PATH.new until it
-/// is whole, so a kill at any time leaves the old file or the new one at the path. Whoever has the old file open finds
-/// that it has no name: so a file with several names is refused.
+/// Replaces a file by a new one with these bytes, and with the same owner and permissions. The new file is PATH.new
+/// until it is complete, so a kill at any time leaves the old file or the new one at the path. A builder that has the
+/// old file open notices that it has no name any more. So a file with several names is refused.
 ///
 /// # Errors
 /// `System` if the new file can't be created, written or renamed, or if the file has several names, and `Memory`.

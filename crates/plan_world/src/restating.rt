@@ -1,4 +1,4 @@
-//! Entries whose bases become the stamps of their outputs.
+//! Restates entries: their bases become the stamps of their outputs.
 
 ghost use Rattle.std.specs.Prelude.{◌≡◌, ◌&&◌, IfErr, IfOk, bytes_eq, length, not};
 ghost use Rattle.std.specs.List.{list_any};
@@ -14,7 +14,7 @@ use plan_record::Entry;
 use std::alloc::Global;
 use std::rt::Files;
 
-/// Checks whether a name is among others.
+/// Checks whether a name is among these names.
 fn is_among(names: &[&[u8]], wanted: &[u8]) -> bool
     ensures { result ≡ list_any (λ name. bytes_eq name wanted.now) (texts names.now) }
 {
@@ -26,7 +26,7 @@ fn is_among(names: &[&[u8]], wanted: &[u8]) -> bool
     false
 }
 
-/// Checks whether no output is named, or this one is among those that are.
+/// Checks whether no output is named, or this output is among the named ones.
 fn is_wanted(outputs: &[&[u8]], output: &[u8]) -> bool
     ensures { result ≡ is_wanted (texts outputs.now) output.now }
 {
@@ -54,7 +54,7 @@ fn with_basis(alloc: Global, entry: &Entry, basis: u64) -> Result<Entry, DeviceF
     )
 }
 
-/// Returns what becomes of an entry whose output has this stamp.
+/// Returns an entry whose output has this stamp, restated if the output is wanted.
 fn restated_entry(
     alloc: Global,
     outputs: &[&[u8]],
@@ -70,7 +70,8 @@ fn restated_entry(
     }
 }
 
-/// Returns entries with the stamps of their outputs, one for each, as the bases of those whose outputs are wanted.
+/// Restates entries. There is one stamp for each entry: the basis of the entry becomes this stamp if its output is
+/// wanted.
 pub(crate) fn restate_entries(
     alloc: Global,
     outputs: &[&[u8]],
@@ -87,8 +88,8 @@ pub(crate) fn restate_entries(
     Ok(made)
 }
 
-/// Returns the stamp that an entry's output has now, if the entry is restated; otherwise its basis. The basis stays too
-/// if the system can't be asked about the output, since then the entry is spoilt.
+/// Returns the current stamp of an entry's output if the entry is restated, and otherwise its basis. Also returns the
+/// basis if the system can't be asked about the output, since then the entry is spoilt.
 fn stamp_for<R: Files>(rt: &R, outputs: &[&[u8]], entry: &Entry) -> Result<u64, DeviceFault> {
     if is_restated(outputs, entry) & is_askable(entry.output()) {
         stamp_of(rt, entry.output())

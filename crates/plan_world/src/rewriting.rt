@@ -1,4 +1,4 @@
-//! Rewrites a record, so that it has only its last entries.
+//! Rewrites a record, so that it has only the last entry of each output.
 
 ghost use Rattle.std.specs.Prelude.{◌≡◌, List, ℕ, length, IfOk};
 ghost use Rattle.std.specs.List.{flat_map};
@@ -18,7 +18,7 @@ use std::fs::OpenFile;
 use std::io::{Read, Seek, Write};
 use std::rt::Files;
 
-/// Replaces a record's file by one with its last entries. The file's lock must be held.
+/// Replaces a record's file by one with its last entries. The caller must hold the file's lock.
 fn compact_locked<R: Files + AllocGlobal>(
     rt: &R,
     path: &str,
@@ -33,7 +33,8 @@ where
     replace_file(rt, path, &bytes, &file.metadata()?)
 }
 
-/// Replaces a record's file by one with its last entries, while nobody appends to it. The record's lock must be held.
+/// Replaces a record's file by one with its last entries, while no builder appends to it. The caller must hold the
+/// record's lock.
 pub(crate) fn compact<R: Files + AllocGlobal>(
     rt: &R,
     path: &str,
@@ -65,7 +66,7 @@ where
     Ok(spellings(rt.alloc(), &made)?)
 }
 
-/// Replaces a record's file by one with its last entries, restated. The file's lock must be held.
+/// Replaces a record's file by one with its last entries, restated. The caller must hold the file's lock.
 fn restate_locked<R: Files + AllocGlobal>(
     rt: &R,
     path: &str,
@@ -80,8 +81,8 @@ where
     replace_file(rt, path, &bytes, &file.metadata()?)
 }
 
-/// Replaces a record's file by one with its last entries, restated, while nobody appends to it. The record's lock must
-/// be held.
+/// Replaces a record's file by one with its last entries, restated, while no builder appends to it. The caller must
+/// hold the record's lock.
 pub(crate) fn restate<R: Files + AllocGlobal>(
     rt: &R,
     path: &str,

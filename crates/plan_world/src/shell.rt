@@ -1,4 +1,4 @@
-//! Commands, run by a shell, and who runs the shells.
+//! Runs commands by shells, and the trait of the shells.
 
 ghost use Rattle.std.specs.Prelude.{◌≡◌, ◌↔◌, true, IfErr, IfOk, IsErr, IsUtf8, Ok, OnOk, Some, slice_get};
 ghost use Rattle.std.specs.Io.KnownBytes.{Appends};
@@ -23,7 +23,7 @@ use std::sync::{Mutex, Wait};
 use std::{fs, str};
 
 /// Returns the shell with a command as its argument, and with these names of locked records in its environment. A
-/// command that begins with a hyphen is no option.
+/// command that begins with a hyphen isn't taken as an option.
 fn shell_of(alloc: Global, text: &str, records: &str) -> Result<Command, AllocError>
     ensures { IfOk result (λ command. IsShellOf command text.now records.now) }
 {
@@ -33,7 +33,7 @@ fn shell_of(alloc: Global, text: &str, records: &str) -> Result<Command, AllocEr
     Ok(shell)
 }
 
-/// Returns the reply to a command whose shell ended with this exit code. None if a signal ended it.
+/// Returns the reply to a command whose shell ended with this exit code, or by a signal if there is none.
 fn exit_reply(code: Option<i32>) -> Reply
     ensures { result ≡ ending code }
 {
@@ -58,7 +58,7 @@ fn reply_of_shell(ended: Result<Option<i32>, DeviceFault>) -> Result<Reply, Allo
     }
 }
 
-/// Writes what a command printed.
+/// Writes the output of a command.
 fn write_printed<W: Write>(out: &mut W, text: &[u8]) -> io::Result<()>
     ensures { OnOk result (Appends (W.contents out.old) (W.contents out.new) text.now) }
 {
@@ -66,8 +66,8 @@ fn write_printed<W: Write>(out: &mut W, text: &[u8]) -> io::Result<()>
     out.flush()
 }
 
-/// Writes what a command printed to this program's standard output, and a line feed if its last line has none. The
-/// screen is locked meanwhile, so that no other command's output comes between. A write that fails is ignored here: the
+/// Writes the output of a command to this program's standard output, and a line feed if its last line has none. Locks
+/// the screen meanwhile, so that no other command's output comes between. A write that fails is ignored here: the
 /// status lines that follow fail as well, and report it.
 fn show<R: Print + Wait + AllocGlobal>(
     rt: &R,
@@ -85,7 +85,7 @@ fn show<R: Print + Wait + AllocGlobal>(
     Ok(())
 }
 
-/// Creates the folder of a path, if it is missing, or returns why it can't be created.
+/// Creates the folder of a path if it is missing.
 fn create_folder<R: Files>(rt: &R, path: &str) -> Result<(), DeviceFault> {
     match Path::new(path).parent() {
         Some(folder) if !folder.as_str().is_empty() => Ok(fs::create_dir_all(rt, folder)?),
@@ -93,7 +93,8 @@ fn create_folder<R: Files>(rt: &R, path: &str) -> Result<(), DeviceFault> {
     }
 }
 
-/// Creates the folder of a file if it is missing, and returns whether it exists then. If not, standard error says why.
+/// Creates the folder of a file if it is missing, and returns whether it exists now. If it can't be created, reports
+/// the reason on standard error.
 fn make_folder<R: Files + Eprint>(rt: &R, file: &[u8]) -> bool
     ensures { result ≡ true → IsUtf8 file.now }
 {
@@ -109,7 +110,7 @@ fn make_folder<R: Files + Eprint>(rt: &R, file: &[u8]) -> bool
     }
 }
 
-/// Creates the missing folders of files, and returns whether all exist then.
+/// Creates the missing folders of files, and returns whether all exist now.
 pub(crate) fn make_folders<R: Files + Eprint>(rt: &R, files: &RowList<u8>) -> bool
     ensures { result ≡ true → AreTexts files.now }
 {
@@ -121,8 +122,8 @@ pub(crate) fn make_folders<R: Files + Eprint>(rt: &R, files: &RowList<u8>) -> bo
     true
 }
 
-/// Runs a shell with empty standard input, shows what its command printed, and returns its exit code. None if a signal
-/// ended it.
+/// Runs a shell with empty standard input, shows the output of its command, and returns its exit code. Returns None if
+/// a signal ended it.
 fn run_aside<R: Print + Wait + AllocGlobal, S: Shells>(
     rt: &R,
     screen: &Mutex<()>,
@@ -137,23 +138,25 @@ fn run_aside<R: Print + Wait + AllocGlobal, S: Shells>(
     Ok(status.code())
 }
 
-/// Runs a shell whose command has this program's own standard input, output and error, and returns its exit code. None
-/// if a signal ended it. The screen is locked as long as the shell runs, so that nothing else is printed.
+/// Runs a shell whose command has this program's own standard input, output and error, and returns its exit code.
+/// Returns None if a signal ended it. Locks the screen while the shell runs, so that nothing else is printed.
 fn run_on_terminal<R: Wait, S: Shells>(
     rt: &R,
     screen: &Mutex<()>,
     shells: &S,
     shell: Command,
+    edge: &[u8],
 ) -> Result<Option<i32>, DeviceFault>
     ensures { IfOk result (λ code. S.ended shell code) }
 {
+    shells.wait_for_label(edge);
     let guard = screen.lock(rt);
     let status = shells.status(shell)?;
     drop(guard);
     Ok(status.code())
 }
 
-/// Says on standard error why the shell of an edge's command could not be run, if it could not.
+/// Reports on standard error why the shell of an edge's command could not be run, if it could not.
 fn say_if_lost<R: Eprint>(rt: &R, output: &[u8], ended: Result<Option<i32>, DeviceFault>) {
     if let Err(fault) = ended {
         say(rt, "can't start the command of", output, fault);
@@ -172,16 +175,17 @@ fn run_where<R: Print + Wait + AllocGlobal, S: Shells>(
     ensures { IfOk result (λ code. S.ended shell code) }
 {
     if console {
-        return run_on_terminal(rt, screen, shells, shell);
+        return run_on_terminal(rt, screen, shells, shell, edge);
     }
     run_aside(rt, screen, shells, shell, edge)
 }
 
-/// Runs the command of an edge whose start entry is in the record: a console command on the terminal, any other with
-/// empty standard input, and then shows what it printed. If the shell can't be started, standard error says why.
+/// Runs the command of an edge whose start entry is in the record. A console command runs on the terminal. Any other
+/// command runs with empty standard input, and its output is shown when it has ended. If the shell can't be started,
+/// reports the reason on standard error.
 ///
 /// # Errors
-/// Only that memory ran out, also for what the command printed: then the command was killed.
+/// `AllocError` if memory runs out. If it ran out for the output of the command, the command was killed.
 pub(crate) fn run_shell<R: Print + Eprint + Wait + AllocGlobal, S: Shells>(
     rt: &R,
     screen: &Mutex<()>,
@@ -206,35 +210,44 @@ pub(crate) fn run_shell<R: Print + Eprint + Wait + AllocGlobal, S: Shells>(
     reply_of_shell(ended)
 }
 
-/// What a command printed, and how its shell ended.
+/// The output of a command, and the exit status of its shell.
 #[derive(Drop)]
 pub struct Printed {
-    /// How the shell ended.
+    /// The exit status of the shell.
     pub status: ExitStatus,
-    /// What the command wrote to its standard output and its standard error, in the order in which it wrote it.
+    /// The bytes that the command wrote to its standard output and its standard error, in the order in which it wrote
+    /// them.
     pub text: Vec<u8>,
 }
 
-/// Starts shells, and waits until they have ended. `RealWorld` knows only from here how a command ended. It is proved
-/// for every implementation, whatever its `ended` means.
+/// Starts shells, and waits until they have ended. `RealWorld` learns only from this trait how a command ended. Its
+/// proofs hold for every implementation, whatever its `ended` means.
 pub trait Shells {
     ghost use Rattle.std.specs.Prelude.{IfOk, Option, ℤ};
     ghost use Rattle.std.specs.Process.{exit_code};
     ghost use Rattle.std.specs.declared.alloc.Global.{Global};
     ghost use Rattle.std.specs.declared.process.command.Command.{Command as Shell};
 
-    /// This shell was started and waited for, and it ended with this status, or with none if a signal ended it.
+    /// This shell was started and waited for. It ended with this status, or without a status if a signal ended it.
     ghost ended: { Shell Global → Option ℤ → Type 0 };
 
-    /// Runs the shell of an edge with empty standard input, and returns how it ended, and what it printed that is to be
-    /// shown now. `edge` is the first output of the edge.
+    /// Runs the shell of an edge with empty standard input. Returns its exit status, and the part of its output that
+    /// the caller has to show now. `edge` is the first output of the edge.
     ///
     /// # Errors
-    /// The shell can't be started or waited for, or memory runs out for what it prints: then it was killed.
+    /// The shell can't be started or waited for, or memory runs out for its output. Then the shell was killed.
     fn output(&self, shell: Command, edge: &[u8]) -> io::Result<Printed>
         ensures { IfOk result (λ printed. Self.ended shell (exit_code printed.status)) };
 
-    /// Runs a shell with this program's own standard input, output and error, and returns how it ended.
+    /// Shows the reason why the command of an edge is going to run. `edge` is the first output of the edge. The screen
+    /// isn't locked.
+    fn explain(&self, _edge: &[u8], _reason: &[u8]) {}
+
+    /// Waits until the label of an edge whose command gets the terminal is shown, or until it can no longer be
+    /// expected. `edge` is the first output of the edge. The screen isn't locked.
+    fn wait_for_label(&self, edge: &[u8]);
+
+    /// Runs a shell with this program's own standard input, output and error, and returns its exit status.
     ///
     /// # Errors
     /// The shell can't be started or waited for.
@@ -242,8 +255,8 @@ pub trait Shells {
         ensures { IfOk result (λ status. Self.ended shell (exit_code status)) };
 }
 
-/// The system's shells. The kit's contracts don't say what becomes of a process that it starts, so `ended` says nothing
-/// here: that these two calls run what they are given is trusted, not proved.
+/// The system's shells. The kit's contracts say nothing about a process that was started. So `ended` allows everything
+/// here, and it is trusted, not proved, that the two calls run the given shells.
 #[derive(Drop)]
 pub struct SystemShells<R> {
     rt: R,
@@ -254,10 +267,14 @@ impl<R> SystemShells<R> {
     pub fn new(rt: R) -> SystemShells<R> {
         SystemShells { rt }
     }
+
+    /// Borrows the runtime.
+    pub fn runtime(&self) -> &R {
+        &self.rt
+    }
 }
 
-/// Reads all that is written into a pipe until each process has closed it, and waits for a child. If that fails, the
-/// child is killed.
+/// Reads from a pipe until each process has closed it, and waits for a child. If the read fails, kills the child.
 fn read_until_end<P: OpenProcess, R: Read>(
     child: &mut Child<P>,
     pipe: &mut R,
@@ -277,7 +294,7 @@ fn read_until_end<P: OpenProcess, R: Read>(
 impl<R: Processes + Files> Shells for SystemShells<R> {
     ghost ended = { λ _ _. Unit {0} };
 
-    /// Standard output and standard error are one pipe, so what is written to both stays in its order.
+    /// Standard output and standard error are one pipe, so bytes that are written to both stay in their order.
     fn output(&self, shell: Command, _edge: &[u8]) -> io::Result<Printed> {
         let mut shell = shell;
         let mut text = Vec::new(*shell.allocator());
@@ -291,6 +308,9 @@ impl<R: Processes + Files> Shells for SystemShells<R> {
         let status = read_until_end(&mut child, &mut reader, &mut text)?;
         Ok(Printed { status, text })
     }
+
+    /// Returns at once, since labels come after commands.
+    fn wait_for_label(&self, _edge: &[u8]) {}
 
     fn status(&self, shell: Command) -> io::Result<ExitStatus> {
         let mut shell = shell;

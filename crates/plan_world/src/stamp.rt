@@ -1,4 +1,4 @@
-//! When a file was last changed.
+//! Stamps: the times at which files were last changed.
 
 ghost use Rattle.std.specs.Prelude.{◌≡◌, ◌≤◌, ◌↔◌, List, ℕ, IfErr, IfOk, IsErr, IsOkAnd, IsUtf8, Ok, OnOk};
 ghost use Rattle.std.specs.IoError.{error_kind};
@@ -50,7 +50,7 @@ fn seen(found: io::Result<Metadata>) -> Result<Reply, AllocError>
 /// Returns the stamp of the file at a path, in nanoseconds since 1970, or 0 if it is missing. Links are followed.
 ///
 /// # Errors
-/// Only that memory ran out. A path that isn't UTF-8, and a file that can't be looked up, are the reply `Fault`.
+/// `AllocError` if memory runs out. If the path isn't UTF-8 or the file can't be looked up, the reply is `Fault`.
 pub(crate) fn stat<R: Files>(rt: &R, path: &[u8]) -> Result<Reply, AllocError>
     ensures suits { IfOk result (λ r. IsAnswer (Stat path.now) r) }
     ensures no_text { ¬ (IsUtf8 path.now) → result ≡ Ok Fault }
@@ -76,7 +76,7 @@ fn found_stamp(found: io::Result<Metadata>) -> Result<u64, DeviceFault>
     }
 }
 
-/// Returns the stamp of the file at a path, as `stat` replies it, or why it can't be determined.
+/// Returns the stamp of the file at a path, as `stat` does, or the reason why it can't be determined.
 pub(crate) fn stamp_of<R: Files>(rt: &R, path: &[u8]) -> Result<u64, DeviceFault>
     ensures { ¬ (IsUtf8 path.now) → IsErr result }
 {

@@ -1,4 +1,4 @@
-//! Real files and commands, in a folder of each test's own.
+//! Tests with real files and commands. Each test has its own folder.
 
 mod commands;
 mod failing;
@@ -186,10 +186,10 @@ fn length_is<R: Files + Abort + AllocGlobal>(rt: &R, path: &str, len: usize) -> 
     Ok(())
 }
 
-/// Lanes may ask it at once.
+/// Checks at compile time that several lanes may share a world.
 fn shared<W: World + Send + Sync>(_world: &W) {}
 
-/// Threads can borrow it.
+/// Checks that threads can borrow a world.
 #[test]
 fn lent_to_lanes(rt: HostRuntime) -> Result<(), Fail> {
     let folder = folder(&rt, "lent")?;
@@ -327,7 +327,7 @@ fn depfiles(rt: HostRuntime) -> Result<(), Fail> {
     Ok(())
 }
 
-/// Names are whole words.
+/// Checks that a name of a lock is found only as a whole word.
 #[test]
 fn names_of_locks(rt: HostRuntime) -> Result<(), Fail> {
     assert!(rt; is_named("1:2 3:45", "3:45"));

@@ -32,7 +32,7 @@ use std::sync::{Mutex, Wait};
 use std::thread::Parker;
 use std::time::Clock;
 
-/// Real files and commands, and a record file that is open. Lanes ask it at once.
+/// Real files and commands, and a record file that is open. Several lanes may call it at the same time.
 ///
 /// Before a command is started, the record says that its edge was begun. So an edge whose command failed or was
 /// interrupted is out of date the next time. A program creates the world in `main`, with its own runtime.
@@ -41,13 +41,13 @@ pub struct RealWorld<R: Files, S> {
     rt: R,
     /// Runs the shells of commands.
     shells: S,
-    /// Held while what a command printed is written, and as long as a console command runs.
+    /// Locked while the output of a command is written, and while a console command runs.
     screen: Mutex<()>,
     /// Unparked before a command is started.
     parker: Parker,
     /// The path of the record.
     path: String,
-    /// The record, once it was read.
+    /// The record, or None before it is read.
     record: Mutex<Option<RecordFile<R::File>>>,
     /// Keeps other builders from the record.
     lock: BuilderLock<R::File>,
@@ -57,13 +57,13 @@ impl<R: Files + Env + Clock + Eprint + AllocGlobal, S> RealWorld<R, S>
 where
     R::File: Read + Write + Seek + OpenFile + SharedFile + Drop,
 {
-    /// Opens the world of a runtime and of shells, with the record of this path, which is created empty if it is
+    /// Opens the world of a runtime and of shells, with the record at this path. Creates an empty record if it is
     /// missing. Its folder must exist. A record that may not be written is only read.
     ///
-    /// It waits while another builder uses the record, and says so on standard error after a second. A builder that was
-    /// started by a command of that one goes on without waiting.
+    /// Waits while another builder uses the record, and reports that on standard error after a second. A builder that
+    /// was started by a command of that builder doesn't wait.
     ///
-    /// A record of 64 KiB or more is left to `read_record`, or to whoever asks for it first.
+    /// A record of 64 KiB or more isn't read here, but by `read_record` or by the first call that needs it.
     ///
     /// # Errors
     /// `Device` if the record or its lock can't be created, read, locked or cut, and `Memory`.
@@ -106,8 +106,8 @@ where
     compact_grown(rt, record, lock, file)
 }
 
-/// Takes the lock of a record, and reads the record if it is short. Returns its path too. Folders, devices and pipes
-/// are refused before a lock is created.
+/// Takes the lock of a record, and reads the record if it is short. Also returns its path. Refuses folders, devices and
+/// pipes before it creates a lock.
 fn open_for_building<R: Files + Env + Clock + Eprint + AllocGlobal>(
     rt: &R,
     record: &str,
@@ -131,14 +131,14 @@ impl<R: Files + Wait + Eprint + AllocGlobal, S> RealWorld<R, S>
 where
     R::File: Read + Write + Seek + OpenFile + SharedFile + Drop,
 {
-    /// Reads the record and cuts it to its whole entries, unless that was done before. A record that has grown is
-    /// compacted if no builder above this one holds its lock. Lanes may ask the world meanwhile: whoever asks for the
+    /// Reads the record and cuts it to its whole entries, unless that was done before. Compacts a record that has
+    /// grown, if no builder above this one holds its lock. Lanes may call the world meanwhile. A call that needs the
     /// record waits.
     ///
     /// # Errors
-    /// `Device` if the record can't be opened, read, locked or cut, and `Memory`; standard error says why. A record
-    /// that can't be compacted is used as it is. While the record can't be read, edges that ask for it fail, and no
-    /// command is started.
+    /// `Device` if the record can't be opened, read, locked or cut, and `Memory`. The reason is reported on standard
+    /// error. A record that can't be compacted is used as it is. While the record can't be read, edges that need it
+    /// fail, and no command is started.
     pub fn read_record(&self) -> Result<(), OpenFault> {
         let mut record = self.record.lock(&self.rt);
         match self.read_in(&mut record) {
@@ -155,16 +155,16 @@ where
         }
     }
 
-    /// Checks whether the record was read: by `open`, by `read_record`, or by whoever asked for it first.
+    /// Checks whether the record was read: by `open`, by `read_record`, or by the first call that needed it.
     pub fn has_read_record(&self) -> bool {
         self.record.lock(&self.rt).is_some()
     }
 
-    /// Returns the outputs that the record has entries of, each once, in the order of their last entries. It reads the
-    /// record first if that wasn't done.
+    /// Returns the outputs that the record has entries of, each once, in the order of their last entries. Reads the
+    /// record first if that wasn't done yet.
     ///
     /// # Errors
-    /// As `read_record`, which says why, and `Memory`.
+    /// As for `read_record`, and `Memory`.
     pub fn recorded_outputs(&self) -> Result<RowList<u8>, OpenFault> {
         self.read_record()?;
         let mut record = self.record.lock(&self.rt);
@@ -172,7 +172,7 @@ where
         Ok(read.outputs(self.rt.alloc())?)
     }
 
-    /// Returns the record, and reads it first if that wasn't done.
+    /// Returns the record, and reads it first if that wasn't done yet.
     fn read_in<'a>(
         &self,
         record: &'a mut Option<RecordFile<R::File>>,
@@ -185,14 +185,14 @@ where
 }
 
 impl<R: Files, S> RealWorld<R, S> {
-    /// Returns the lock of standard output. It is held while a command's output is written, and as long as a console
-    /// command runs. Whoever writes to standard output meanwhile must take it too.
+    /// Returns the lock of standard output. It is held while a command's output is written, and while a console command
+    /// runs. Other writers to standard output must take it too.
     pub fn screen(&self) -> &Mutex<()> {
         &self.screen
     }
 
-    /// Returns the parker of the thread that prints status lines. It is unparked before a command is started, so that
-    /// the thread prints the lines that are due before the command's output. Only one thread at a time may park on it.
+    /// Returns the parker of the thread that prints status lines. The world unparks it before it starts a command, so
+    /// that the lines so far are printed before the command's output. Only one thread at a time may park on it.
     pub fn parker(&self) -> &Parker {
         &self.parker
     }
@@ -276,8 +276,8 @@ where
     }
 }
 
-/// Returns the reply to a recall that found an entry which says this. If the system can't be asked about one of its
-/// paths, the entry is spoilt, and the reply is `Nothing`, so that the edge's command runs again.
+/// Returns the reply to a recall that found an entry with these contents. If the system can't be asked about one of its
+/// paths, the entry is spoilt. Then the reply is `Nothing`, so that the edge's command runs again.
 fn replied_entry(recorded: Recorded) -> Reply
     ensures { RecallsAs recorded result }
 {
@@ -324,9 +324,9 @@ fn keep_reply(kept: Kept<'_>, output: &[u8], command: &[u8], basis: u64, paths: 
     Reply::Kept
 }
 
-/// Replies by `MayAnswer`: a reply's sort suits its question, and a path or command that isn't UTF-8 is neither looked
-/// up nor started. The reply to a command is that it wasn't started, or how a shell ended that ran just this command.
-/// No contract says what a file contains or what a command does.
+/// Replies by `MayAnswer`. The kind of a reply suits its question, and a path or command that isn't UTF-8 is neither
+/// looked up nor started. The reply to a command is that it wasn't started, or the exit status of a shell that ran
+/// exactly this command. No contract says what a file contains or what a command does.
 impl<R: Files + Print + Eprint + Wait + AllocGlobal, S: Shells> World for RealWorld<R, S>
 where
     R::File: Read + Write + Seek + OpenFile + SharedFile + Drop,
@@ -336,6 +336,10 @@ where
     ghost allows = { λ _ question reply. MayAnswer S.ended question reply };
 
     fn keeps_journal() -> bool {
+        false
+    }
+
+    fn observes() -> bool {
         false
     }
 
@@ -355,6 +359,10 @@ where
             Ok(reply) => Ok(reply),
             Err(fault) => fault.or_reply(Reply::Fault),
         }
+    }
+
+    fn explain(&self, edge: &[u8], reason: &[u8]) {
+        self.shells.explain(edge, reason);
     }
 
     fn run(

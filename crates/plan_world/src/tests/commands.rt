@@ -5,7 +5,8 @@ use crate::Printed;
 use std::io::{self, ErrorKind};
 use std::process::{Command, ExitStatus};
 
-/// Checks the replies, in words, to commands with these outputs. Each command is said to need the console or not.
+/// Checks the replies, in words, to commands with these outputs. Each case states whether its command is a console
+/// command.
 fn starts_are<R: Files + Print + Eprint + Wait + AllocGlobal, S: Shells>(
     rt: &impl Abort,
     alloc: Global,
@@ -22,7 +23,7 @@ where
     Ok(())
 }
 
-/// A console command writes to where this program's own standard output goes, and another one doesn't.
+/// Checks that a console command writes to this program's own standard output, and that another command doesn't.
 #[test]
 fn console_commands(rt: HostRuntime) -> Result<(), Fail> {
     let folder = folder(&rt, "console_commands")?;
@@ -103,12 +104,14 @@ impl Shells for NoShells {
         Err(io::Error::from(ErrorKind::NotFound))
     }
 
+    fn wait_for_label(&self, _edge: &[u8]) {}
+
     fn status(&self, _shell: Command) -> io::Result<ExitStatus> {
         Err(io::Error::from(ErrorKind::NotFound))
     }
 }
 
-/// A command ends only if its shell did.
+/// Checks that a command counts as not started if its shell can't be started.
 #[test]
 fn no_shells(rt: HostRuntime) -> Result<(), Fail> {
     let folder = folder(&rt, "no_shells")?;
@@ -125,7 +128,7 @@ fn no_shells(rt: HostRuntime) -> Result<(), Fail> {
     Ok(())
 }
 
-/// What a command writes to both of its streams stays in its order.
+/// Checks that the output of a command stays in its order if the command writes to both of its streams.
 #[test]
 fn both_streams_in_order(rt: HostRuntime) -> Result<(), Fail> {
     let alloc = rt.alloc();

@@ -123,7 +123,7 @@ fn keeps_as(
     Ok(())
 }
 
-/// An entry that is written in part is cut off, and the next one is kept.
+/// Checks that an entry that was written in part is cut off, and that the next entry is kept.
 #[test]
 fn torn_write_is_cut_off(rt: HostRuntime) -> Result<(), Fail> {
     let folder = folder(&rt, "torn_write")?;
@@ -138,7 +138,7 @@ fn torn_write_is_cut_off(rt: HostRuntime) -> Result<(), Fail> {
     Ok(())
 }
 
-/// After a cut that failed nothing more is kept, also if the file could be cut and written again.
+/// Checks that nothing more is kept after a cut failed, even if the file could be cut and written again.
 #[test]
 fn nothing_is_kept_after_a_failed_cut(rt: HostRuntime) -> Result<(), Fail> {
     let folder = folder(&rt, "failed_cut")?;
@@ -177,7 +177,7 @@ fn recalls_after_keep(
     Ok(())
 }
 
-/// Checks that a record has the entry of output `a` whose edge was begun, and behind it the entry of output `b`.
+/// Checks that a record has the entry of output `a` whose edge was begun, and after it the entry of output `b`.
 fn has_both<R: Files + Abort + AllocGlobal>(rt: &R, record: &str) -> Result<(), Fail> {
     let mut bytes = Vec::from_slice(rt.alloc(), &BEGUN_ENTRY)?;
     bytes.extend_from_slice(&ENTRY)?;
@@ -185,7 +185,7 @@ fn has_both<R: Files + Abort + AllocGlobal>(rt: &R, record: &str) -> Result<(), 
     file_is(rt, record, &bytes)
 }
 
-/// Entries that another builder appended are recalled after the next keep, and what it left in part is cut off.
+/// Checks that entries of another builder are recalled after the next keep, and that its incomplete entry is cut off.
 #[test]
 fn entries_of_another_builder(rt: HostRuntime) -> Result<(), Fail> {
     let folder = folder(&rt, "another_builder")?;
@@ -199,7 +199,7 @@ fn entries_of_another_builder(rt: HostRuntime) -> Result<(), Fail> {
     Ok(())
 }
 
-/// A builder whose record was replaced keeps nothing more.
+/// Checks that a builder keeps nothing more after its record was replaced.
 #[test]
 fn replaced_record(rt: HostRuntime) -> Result<(), Fail> {
     let folder = folder(&rt, "replaced_record")?;

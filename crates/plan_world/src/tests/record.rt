@@ -41,15 +41,15 @@ fn torn_record(rt: HostRuntime) -> Result<(), Fail> {
     Ok(())
 }
 
-/// Checks that a record has the entry of 24 bytes, and behind it the entry of output `a` whose edge was begun.
+/// Checks that a record has the entry of 24 bytes, and after it the entry of output `a` whose edge was begun.
 fn has_begun<R: Files + Abort + AllocGlobal>(rt: &R, record: &str) -> Result<(), Fail> {
     let mut bytes = Vec::from_slice(rt.alloc(), &ENTRY)?;
     bytes.extend_from_slice(&BEGUN_ENTRY)?;
     file_is(rt, record, &bytes)
 }
 
-/// Keeps an entry of the output `a`, and then starts a command of it that copies the record and fails. Returns what the
-/// record has then.
+/// Keeps an entry of the output `a`, and then starts a command for `a` that copies the record and fails. Returns what
+/// the record has for `a` after that.
 fn failed_edge<R: Files + Print + Eprint + Wait + AllocGlobal, S: Shells>(
     rt: &impl Abort,
     alloc: Global,
@@ -73,7 +73,7 @@ fn is_begun(rt: &impl Abort, begun: &Recorded) {
     assert_eq!(rt; begun.paths().path(0), b"/dev/null/begun".as_slice());
 }
 
-/// Keeps an entry of the output `a` with these paths, of which there is one, and checks that it is recalled.
+/// Keeps an entry of the output `a` with these paths, which must be exactly one, and checks that it is recalled.
 fn keeps_after_begun<W: World>(
     rt: &impl Abort,
     alloc: Global,
@@ -110,7 +110,7 @@ fn failed_is_begun(rt: HostRuntime) -> Result<(), Fail> {
     Ok(())
 }
 
-/// A record that was removed while it is open keeps nothing more: its path may be that of another file now.
+/// Checks that nothing more is kept in a record that was removed while it is open: its path may now name another file.
 #[test]
 fn removed_record(rt: HostRuntime) -> Result<(), Fail> {
     let folder = folder(&rt, "removed_record")?;
@@ -148,7 +148,7 @@ fn recalls_long_paths<W: World>(rt: &impl Abort, alloc: Global, world: &W) -> Re
     recalls_with(rt, alloc, world, &path, "nothing")
 }
 
-/// An entry with a path that the system can't be asked about isn't recalled.
+/// Checks that an entry isn't recalled if the system can't be asked about one of its paths.
 #[test]
 fn spoilt_paths(rt: HostRuntime) -> Result<(), Fail> {
     let folder = folder(&rt, "spoilt_paths")?;
@@ -174,7 +174,7 @@ fn is_grown<W: World, R: Files + Abort + AllocGlobal>(
     length_is(rt, record, len)
 }
 
-/// A record with more than 100 entries, and more than three for each output, is compacted as it is opened.
+/// Checks that opening compacts a record that has more than 100 entries, and more than three for each output.
 #[test]
 fn grown_record(rt: HostRuntime) -> Result<(), Fail> {
     let folder = folder(&rt, "grown_record")?;
@@ -190,7 +190,7 @@ fn grown_record(rt: HostRuntime) -> Result<(), Fail> {
     Ok(())
 }
 
-/// Checks that a long record is compacted by the first who asks for it, or before.
+/// Checks that a long record is compacted by the first caller that needs it, or earlier.
 fn is_read_once<R: Files + Print + Eprint + Wait + AllocGlobal, S: Shells>(
     rt: &(impl Files + Abort + AllocGlobal),
     world: &RealWorld<R, S>,
@@ -212,7 +212,7 @@ where
     Ok(())
 }
 
-/// A long record is read by the first who asks for it, or before.
+/// Checks that a long record is read by the first caller that needs it, or earlier.
 #[test]
 fn long_record(rt: HostRuntime) -> Result<(), Fail> {
     let folder = folder(&rt, "long_record")?;
@@ -228,7 +228,7 @@ fn long_record(rt: HostRuntime) -> Result<(), Fail> {
     Ok(())
 }
 
-/// Checks that the only output of a long record is `a`, and that the record was read after the outputs are returned.
+/// Checks that the only output of a long record is `a`, and that the record was read when the outputs are returned.
 fn outputs_are_read<R: Files + Eprint + Wait + AllocGlobal, S>(
     rt: &impl Abort,
     world: &RealWorld<R, S>,
@@ -243,7 +243,7 @@ where
     Ok(())
 }
 
-/// The outputs of a long record are those of its entries. To return them it is read.
+/// Checks that the outputs of a long record are those of its entries, and that the record is read to return them.
 #[test]
 fn outputs_of_a_long_record(rt: HostRuntime) -> Result<(), Fail> {
     let folder = folder(&rt, "outputs_of_a_long_record")?;
@@ -258,7 +258,7 @@ fn outputs_of_a_long_record(rt: HostRuntime) -> Result<(), Fail> {
     Ok(())
 }
 
-/// Checks that a world whose record can't be read starts no command and knows nothing.
+/// Checks that a world starts no command and fails to recall an entry if its record can't be read.
 fn is_lost<R: Files + Print + Eprint + Wait + AllocGlobal, S: Shells>(
     rt: &impl Abort,
     alloc: Global,
@@ -274,7 +274,7 @@ where
     start_is(rt, alloc, world, b"true", false, &outputs, "not started")
 }
 
-/// If a long record can't be read when it is needed, no command is started, and nothing is known.
+/// Checks that no command is started and a recall fails if a long record can't be read when it is needed.
 #[test]
 fn long_record_is_lost(rt: HostRuntime) -> Result<(), Fail> {
     let folder = folder(&rt, "long_record_is_lost")?;
@@ -289,7 +289,7 @@ fn long_record_is_lost(rt: HostRuntime) -> Result<(), Fail> {
     Ok(())
 }
 
-/// A record is compacted whatever its length, and no record is created.
+/// Checks that `recompact` compacts a record of any length, and creates none.
 #[test]
 fn recompacted(rt: HostRuntime) -> Result<(), Fail> {
     let folder = folder(&rt, "recompacted")?;
@@ -306,7 +306,7 @@ fn recompacted(rt: HostRuntime) -> Result<(), Fail> {
     Ok(())
 }
 
-/// Each output is listed once, in the order of the last entries.
+/// Checks that each output is listed once, in the order of the last entries.
 #[test]
 fn outputs_of_a_record(rt: HostRuntime) -> Result<(), Fail> {
     let folder = folder(&rt, "outputs_of_a_record")?;
@@ -341,7 +341,8 @@ fn bases_of<W: World>(world: &W, first: &[u8], second: &[u8]) -> Result<(u64, u6
     Ok((basis_of(world, first)?, basis_of(world, second)?))
 }
 
-/// The basis of a named output becomes the stamp of its file, or 0 if that is missing, and the others stay.
+/// Checks that the basis of a named output becomes the stamp of its file, or 0 if the file is missing, and that other
+/// bases stay.
 #[test]
 fn restated_outputs(rt: HostRuntime) -> Result<(), Fail> {
     let folder = folder(&rt, "restated_outputs")?;
@@ -370,7 +371,7 @@ fn restated_outputs(rt: HostRuntime) -> Result<(), Fail> {
     Ok(())
 }
 
-/// An entry that says that its edge was begun stays as it is.
+/// Checks that an entry whose edge was begun stays as it is.
 #[test]
 fn begun_is_not_restated(rt: HostRuntime) -> Result<(), Fail> {
     let folder = folder(&rt, "begun_not_restated")?;
