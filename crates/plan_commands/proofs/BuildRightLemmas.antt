@@ -19,8 +19,9 @@ use Rattle.plan_status.specs.Outcomes.{all_done}
 use Rattle.plan_lanes.specs.Journals.{Rule}
 use Rattle.plan_lanes.specs.Reports.{IsRunOf}
 use Rattle.plan_lanes.specs.declared.board.Report.{Report}
-use Rattle.plan_laws.specs.Ends.{CommandsRunOnce, Exchange, Succeeds, commands_in}
+use Rattle.plan_laws.specs.Ends.{CommandsRunOnce, Succeeds, commands_in}
 use Rattle.plan_laws.specs.Right.{AllIsBuilt, FinishedRunsAreRight}
+use Rattle.plan_reasons.specs.Observing.{Exchange}
 use Rattle.plan_commands.specs.declared.building.Done.{Done}
 use Rattle.plan_commands.specs.declared.building.Done.TheVariants as done
 use Rattle.plan_commands.specs.Showing.{Shown}

@@ -10,3 +10,4 @@ mod BuildRightLemmas
 mod ComparingLemmas
 mod CompilingLemmas
 mod DryLemmas
+mod ExplainingLemmas

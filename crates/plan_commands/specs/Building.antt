@@ -195,7 +195,7 @@ LacksMemory fault = (fault ≡ no_memory) ⊎ (fault ≡ opening_memory)
 abbrev pub RunStops : Shown → Rule → Opened → (old new : SinkState) → PlanFault → Type 0
 RunStops shown rule o old new fault = (r : Report) × (LanesStop shown rule o r old new fault ⊎ FailsToPrint shown rule o r old new fault)
 
--- No run was opened, and nothing was printed. Or a run stopped.
+-- Either no run was opened, and nothing was printed, or a run stopped.
 abbrev pub IsNotRun : Shown → Rule → Opened → (old new : SinkState) → PlanFault → Type 0
 IsNotRun shown rule o old new fault = ((new ≡ old) × (fault ≡ opening_memory)) ⊎ RunStops shown rule o old new fault
 

@@ -13,3 +13,4 @@ pub mod Verdicts
 pub mod Showing
 pub mod Running
 pub mod Targets
+pub mod Explaining

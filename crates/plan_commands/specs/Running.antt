@@ -111,7 +111,7 @@ IsNotBegun gives missing w fault =
 abbrev pub printed_lane_fault : LaneFault → PlanFault
 printed_lane_fault fault = record { number = number_of fault; rest = [] }
 
--- A run began, and lanes stopped early. The work until then was shown in this way, perhaps not to its end.
+-- A run began, and lanes stopped early. The marks until then were shown in this way, or a prefix of them.
 pub record LanesStop (shown : Shown) (rule : Rule) (o : Opened) (r : Report) (old new : SinkState) (fault : PlanFault) : Type 0 where
   pub run : IsRunOf rule o r
   pub stop : Option PrintFault
@@ -183,12 +183,12 @@ abbrev pub both : Result ℕ PlanFault → Result Unit PlanFault → Result ℕ 
 both (Ok status) (Err fault) = Err fault
 both told written = told
 
--- The status lines and the trace of a run that has ended were written, as far as no fault came.
+-- The status lines and the trace of a run that has ended were written, each whole or up to a fault.
 abbrev pub TellsAll : Option Text → Parts → Limits → List ℕ → Report → (old new : Written) → Result ℕ PlanFault → Type 0
 TellsAll trace p limits edges r old new result =
     (told : Result ℕ PlanFault) × (written : Result Unit PlanFault) × Tells p r old.0 new.0 told × WritesTrace trace limits edges r old.1 new.1 written × (result ≡ both told written)
 
--- The status lines and the trace of a run that has stopped were written, as far as no fault came.
+-- The status lines and the trace of a run that has stopped were written, each whole or up to a fault.
 abbrev pub TellsSome : Option Text → Parts → Limits → List ℕ → Report → (old new : Written) → Type 0
 TellsSome trace p limits edges r old new =
     (stop : Option PrintFault) × (whole : Bool) × Prints (lines_in p r) stop old.0 new.0 × Traces trace limits edges r whole old.1 new.1

@@ -1,24 +1,29 @@
 //! Builds the targets of a manifest: reads the manifest, remakes it if it is out of date, and runs its image.
 
-ghost use Rattle.std.specs.Prelude.{◌≡◌, ◌⊎◌, IfErr, IfOk, None, OnOk, Ok, false, map, true, ◌∷◌, []};
+ghost use Rattle.std.specs.Prelude.{◌≡◌, ◌⊎◌, IfErr, IfNone, IfOk, IfSome, None, OnOk, Ok, false, map, true, ◌∷◌, []};
 ghost use Rattle.std.specs.Result.{result_err};
 ghost use Rattle.plan_scope.specs.Loading.{IsMissing};
 ghost use Rattle.plan_scope.specs.Sound.{IsSound};
 ghost use Rattle.plan_scope.specs.Sources.{SameFiles};
 ghost use Rattle.plan_compile.specs.declared.baseline.OutOfDateRule.TheVariants as OutOfDateRule;
 ghost use Rattle.plan_machine.specs.Kept.{IsStateOf};
+ghost use Rattle.plan_machine.specs.State.{has_ended};
 ghost use Rattle.plan_machine.specs.Wanted.{any_outside};
+ghost use Rattle.plan_lanes.specs.Faults.{FaultReports};
+ghost use Rattle.plan_lanes.specs.Reports.{IsRunOf};
 ghost use Rattle.plan_commands.specs.Commands.{LacksGraph};
 ghost use Rattle.plan_commands.specs.Compiling.{IsImageOf, LacksImageOf};
 ghost use Rattle.plan_commands.specs.Faults as faults;
 ghost use Rattle.plan_commands.specs.Building as defined;
 ghost use Rattle.plan_commands.specs.Building.{Builds, EndsAs, EndsRound, HasRun, HasRunNothing, IsLost, IsNotRead, IsNotRun, IsRead, IsRoundOf, RoundStops, RunsTargets, Stops, TargetsStop};
-ghost use Rattle.plan_commands.specs.Running.{EndsPrinted};
-ghost use Rattle.plan_commands.specs.Showing.{by_format};
+ghost use Rattle.plan_commands.specs.Running.{EndsPrinted, report_in};
+ghost use Rattle.plan_commands.specs.Showing.{IsShown, by_format};
 
 use crate::commands::manifest_at;
 use crate::compiling::image_of;
+use crate::explaining::{Explained, Explainer};
 use crate::fault::{PlanFault, no_memory};
+use crate::kept::Kept;
 use crate::printed_runs::{Printer, RunResult, run_and_show};
 use crate::running::{printed_lane_fault, printed_print_fault};
 use crate::targets::targets_of;
@@ -46,7 +51,7 @@ pub struct Order<'a> {
     pub targets: &'a [&'a [u8]],
 }
 
-/// How a build ended.
+/// The end of a build.
 #[derive(Clone, Copy, Debug, PartialEq, Eq)]
 pub enum Done {
     /// All wanted edges succeeded, and the command of at least one edge ran.
@@ -90,8 +95,13 @@ fn image_to_run(alloc: Global, manifest: &Manifest) -> Result<Verified, PlanFaul
     }
 }
 
-/// Reads the manifest at a path, and returns its image.
-fn read_image<S: Source>(alloc: Global, source: &mut S, path: &[u8]) -> Result<Verified, PlanFault>
+/// Reads the manifest at a path, and returns its image. Keeps the parts of the manifest that the build needs.
+fn read_image<S: Source, W: World>(
+    alloc: Global,
+    source: &mut S,
+    path: &[u8],
+    kept: &mut Kept,
+) -> Result<Verified, PlanFault>
     ensures read { IfOk result (λ p. IsRead (S.gives source.old) path.now p) }
     ensures whole { OnOk result (S.failures source.new ≡ S.failures source.old) }
     ensures same { SameFiles (S.gives source.new) (S.fails source.new) (S.gives source.old) (S.fails source.old) }
@@ -104,8 +114,7 @@ fn read_image<S: Source>(alloc: Global, source: &mut S, path: &[u8]) -> Result<V
     };
     loaded_manifests_are_sound::<S>();
     let image = image_to_run(alloc, &manifest);
-    // Frees the memory before the run.
-    drop(manifest);
+    kept.keep::<W>(alloc, manifest);
     image
 }
 
@@ -141,6 +150,42 @@ fn printed_run(alloc: Global, run_result: RunResult) -> Result<Report, PlanFault
     }
 }
 
+/// Runs an image like `run_and_show`. If there is an explainer, the world gets the reason of each command.
+fn run_explained<
+    W: World + Send + Sync,
+    F: Format + Send + Drop,
+    O: Sink + Send + Drop,
+    R: Threads + Wait + Sync,
+>(
+    rt: &R,
+    alloc: Global,
+    image: &Verified,
+    options: Options,
+    edges: &[u32],
+    world: &W,
+    explainer: Option<&Explainer>,
+    parker: &Parker,
+    printer: Printer<F, O>,
+) -> (RunResult, Printer<F, O>)
+    ensures run { IfOk result.0.ran (λ r. IsRunOf W.allows (defined.opened image.now options edges.now) r) }
+    ensures ended { IfOk result.0.ran (λ r. has_ended r.state.run_state.now ≡ true) }
+    ensures fault { IfErr result.0.ran (λ f. FaultReports W.allows (defined.opened image.now options edges.now) f) }
+    ensures printed { (kept : F.Kept) → F.kept printer.format ≡ kept
+        → IfSome (report_in result.0.ran) (λ r. IsShown (by_format F.kept F.tells kept) image.now r (result_err result.0.printed) (O.failures printer.out, O.taken printer.out) (O.failures result.1.out, O.taken result.1.out)) }
+    ensures silent { IfNone (report_in result.0.ran) (result.1.out ≡ printer.out) }
+    ensures format { F.kept result.1.format ≡ F.kept printer.format }
+{
+    match explainer {
+        Some(explainer) => {
+            let explained = Explained::new(alloc, world, explainer);
+            run_and_show(
+                rt, alloc, image, options, edges, &explained, parker, printer,
+            )
+        }
+        None => run_and_show(rt, alloc, image, options, edges, world, parker, printer),
+    }
+}
+
 /// Runs an image for the given edges, prints its marks, and returns its report and the printer.
 fn run_edges<
     W: World + Send + Sync,
@@ -154,6 +199,7 @@ fn run_edges<
     options: Options,
     edges: &[u32],
     world: &W,
+    explainer: Option<&Explainer>,
     parker: &Parker,
     printer: Printer<F, O>,
 ) -> (Result<Report, PlanFault>, Printer<F, O>)
@@ -163,13 +209,13 @@ fn run_edges<
     ensures state { IfOk result.0 (λ r. IsStateOf image.now r.state) }
     ensures format { F.kept result.1.format ≡ F.kept printer.format }
 {
-    let (run_result, printer) = run_and_show(
-        rt, alloc, image, options, edges, world, parker, printer,
+    let (run_result, printer) = run_explained(
+        rt, alloc, image, options, edges, world, explainer, parker, printer,
     );
     (printed_run(alloc, run_result), printer)
 }
 
-/// How a round ended.
+/// The end of a round.
 pub(crate) enum Round {
     /// The manifest was remade. It has to be read again.
     Remade,
@@ -211,6 +257,7 @@ pub(crate) fn update_manifest<
     source: &mut S,
     order: &Order<'_>,
     world: &W,
+    kept: &mut Kept,
     parker: &Parker,
     printer: Printer<F, O>,
 ) -> (Result<Round, PlanFault>, Printer<F, O>)
@@ -223,7 +270,7 @@ pub(crate) fn update_manifest<
         (kept : F.Kept) → F.kept printer.format ≡ kept → IfErr result.0 (λ fault. RoundStops (S.gives source.old) missing (by_format F.kept F.tells kept) W.allows a (O.failures printer.out, O.taken printer.out) (O.failures result.1.out, O.taken result.1.out) fault) }
     ensures format { F.kept result.1.format ≡ F.kept printer.format }
 {
-    let image = match read_image(alloc, source, order.manifest) {
+    let image = match read_image::<S, W>(alloc, source, order.manifest, kept) {
         Ok(image) => image,
         Err(fault) => return (Err(fault), printer),
     };
@@ -242,6 +289,7 @@ pub(crate) fn update_manifest<
         order.options,
         &[maker],
         world,
+        kept.explainer(),
         parker,
         printer,
     );
@@ -294,6 +342,7 @@ pub(crate) fn build_targets<
     image: Verified,
     order: &Order<'_>,
     world: &W,
+    explainer: Option<&Explainer>,
     parker: &Parker,
     printer: Printer<F, O>,
 ) -> (Result<Done, PlanFault>, Printer<F, O>)
@@ -317,6 +366,7 @@ pub(crate) fn build_targets<
         order.options,
         &edges,
         world,
+        explainer,
         parker,
         printer,
     );
@@ -336,18 +386,18 @@ pub(crate) fn build_targets<
 }
 
 /// Builds the targets of a manifest, and prints the marks of its runs by a format while commands run. Returns how the
-/// build ended, and the printer. Unpark `parker` to print the marks that are ready.
+/// build ended, and the printer. To print the marks that are ready, unpark `parker`.
 ///
 /// The manifest is read and compiled. If an edge makes the manifest, that edge runs first, with all edges that it
 /// needs. Each time that its command ran, the manifest is read again, at most 100 times (the Ninja manual, "The build
 /// file": a build statement may have the manifest as its output). Then the image of the last manifest is run for the
-/// targets.
+/// targets. If the world observes edges, the world gets the reason of each command (`World::explain`).
 ///
 /// # Errors
 /// - The manifest, or a file that it includes, is missing or refused, or it has no graph or no image: as in
 ///   `do_compile`.
-/// - 132, with the name: no edge makes a target. The first such target is named. The manifest is up to date then.
-/// - 110, 120 to 122: lanes stopped early. The work until then was shown, perhaps not to its end.
+/// - 132, with the name of the first such target: no edge makes a target. The manifest is up to date.
+/// - 110, 120 to 122: lanes stopped early. The marks until then were shown, or a prefix of them.
 /// - 133 ` -`: a write of the text failed.
 /// - 111, 131 or the number of a lower layer: memory ran out.
 pub fn do_build<
@@ -374,14 +424,26 @@ pub fn do_build<
     ensures format { F.kept result.1.format ≡ F.kept printer.format }
 {
     let mut printer = printer;
+    let mut kept = Kept::new(false);
     for _ in 0..MOST_ROUNDS {
-        let (round, left) = update_manifest(rt, alloc, source, order, world, parker, printer);
+        let (round, left) = update_manifest(
+            rt, alloc, source, order, world, &mut kept, parker, printer,
+        );
         printer = left;
         match round {
             Ok(Round::Remade) => {}
             Ok(Round::Failed) => return (Ok(Done::ManifestFails), printer),
             Ok(Round::UpToDate(image)) => {
-                return build_targets(rt, alloc, image, order, world, parker, printer);
+                return build_targets(
+                    rt,
+                    alloc,
+                    image,
+                    order,
+                    world,
+                    kept.explainer(),
+                    parker,
+                    printer,
+                );
             }
             Err(fault) => return (Err(fault), printer),
         }

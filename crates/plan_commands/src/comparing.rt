@@ -132,8 +132,8 @@ fn write_answer<W: Sink>(alloc: Global, same: bool, out: &mut W) -> Result<u8, P
 /// otherwise `different`. Skipped edges are the same, whichever edge they name. Returns the status: 0 for `same`, 1 for
 /// `different`. Then no read and no write failed.
 ///
-/// If any number of failures is allowed, and each edge got the same replies in both traces, runs that have ended are
-/// the same.
+/// If any number of failures is allowed, and each edge got the same replies in both traces, two runs that have ended
+/// are the same.
 ///
 /// # Errors
 /// The first that applies, with the cause and the place. Nothing is written, except if a write fails.

@@ -22,7 +22,7 @@ use std::alloc::Global;
 use std::mem::forget;
 
 /// Returns the graph of a manifest.
-fn graph_of<'a>(alloc: Global, manifest: &'a Manifest) -> Result<Graph<'a>, PlanFault>
+pub(crate) fn graph_of<'a>(alloc: Global, manifest: &'a Manifest) -> Result<Graph<'a>, PlanFault>
     ensures graph { IfOk result (λ g. IsGraph manifest.now g) }
     ensures refused { IfErr result (λ fault. LacksGraph manifest.now fault) }
 {

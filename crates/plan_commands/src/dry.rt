@@ -8,6 +8,7 @@ ghost use Rattle.plan_commands.specs.Showing.{by_format};
 
 use crate::building::{Done, Order, Round, build_targets, update_manifest};
 use crate::fault::PlanFault;
+use crate::kept::Kept;
 use crate::printed_runs::Printer;
 use plan_lanes::{Permit, World};
 use plan_machine::Reply;
@@ -16,18 +17,31 @@ use plan_status::Format;
 use plan_text::{RowList, Sink};
 use plan_verify::PathList;
 use std::alloc::{AllocError, Global};
-use std::sync::Wait;
+use std::sync::{Mutex, Wait};
 use std::thread::{Parker, Threads};
+
+/// The numbers of commands that a dry build listed. A command that is listed for the manifest and for a target counts
+/// twice.
+#[derive(Clone, Copy, Debug, PartialEq, Eq)]
+pub struct Listed {
+    /// All commands.
+    pub commands: u64,
+    /// The commands of edges with `restat`. 0 if there was no memory to count them.
+    pub restat: u64,
+}
 
 /// A world that runs no commands and keeps no entries. It asks another world for files and the record. It replies to
 /// each command that it ended with status 0, to each read of a depfile that it is missing, and to each entry that it is
 /// kept.
 #[derive(Drop)]
-struct DryWorld<'a, W> {
+struct DryWorld<'a, R, W> {
+    rt: &'a R,
     world: &'a W,
+    /// The edges whose commands were listed, in the order in which they asked.
+    edges: Mutex<Vec<u32>>,
 }
 
-impl<W: World> World for DryWorld<'_, W> {
+impl<R: Wait, W: World> World for DryWorld<'_, R, W> {
     ghost use Rattle.plan_commands.specs.Dry.{dry_rule};
 
     ghost allows = { dry_rule W.allows };
@@ -38,12 +52,22 @@ impl<W: World> World for DryWorld<'_, W> {
         W::keeps_journal()
     }
 
+    ghost observes = { W.observes };
+
+    fn observes() -> bool {
+        W::observes()
+    }
+
     fn stat(&self, number: u64, path: &[u8]) -> Result<Reply, AllocError> {
         self.world.stat(number, path)
     }
 
     fn recall(&self, number: u64, output: &[u8]) -> Result<Reply, AllocError> {
         self.world.recall(number, output)
+    }
+
+    fn explain(&self, edge: &[u8], reason: &[u8]) {
+        self.world.explain(edge, reason);
     }
 
     fn run(
@@ -53,7 +77,9 @@ impl<W: World> World for DryWorld<'_, W> {
         _outputs: &RowList<u8>,
         permit: Permit,
     ) -> Result<Reply, AllocError> {
+        let edge = permit.edge();
         permit.spend();
+        self.edges.lock(self.rt).push(edge)?;
         Ok(Reply::Exit(0))
     }
 
@@ -73,9 +99,64 @@ impl<W: World> World for DryWorld<'_, W> {
     }
 }
 
+impl<R: Wait, W> DryWorld<'_, R, W> {
+    /// Returns the numbers of commands that were listed, by what is kept of the manifest.
+    fn listed(&self, kept: &Kept) -> Listed {
+        let edges = self.edges.lock(self.rt);
+        Listed {
+            commands: edges.len() as u64,
+            restat: kept.count_restat(&edges),
+        }
+    }
+}
+
+/// Builds the targets of a manifest in a dry world. Returns how the build ended, and the printer.
+fn build_dry<
+    S: Source,
+    W: World + Send + Sync,
+    F: Format + Send + Drop,
+    O: Sink + Send + Drop,
+    R: Threads + Wait + Sync,
+>(
+    rt: &R,
+    alloc: Global,
+    source: &mut S,
+    order: &Order<'_>,
+    dry: &DryWorld<'_, R, W>,
+    kept: &mut Kept,
+    parker: &Parker,
+    printer: Printer<F, O>,
+) -> (Result<Done, PlanFault>, Printer<F, O>)
+    ensures done { let a = defined.asked order.now.manifest.now order.now.options (map (λ n. n.now) order.now.targets.now) in
+        IfOk result.0 (λ d. Previews (S.gives source.old) (by_format F.kept F.tells (F.kept printer.format)) (dry_rule W.allows) a (O.failures printer.out, O.taken printer.out) (O.failures result.1.out, O.taken result.1.out) d) }
+    ensures read { OnOk result.0 (S.failures source.new ≡ S.failures source.old) }
+    ensures refused { let a = defined.asked order.now.manifest.now order.now.options (map (λ n. n.now) order.now.targets.now) in
+        let missing = IsMissing (S.gives source.old) (S.fails source.old) (S.failures source.old) (S.failures source.new) in
+        IfErr result.0 (λ fault. DryStops (S.gives source.old) missing (by_format F.kept F.tells (F.kept printer.format)) (dry_rule W.allows) a (O.failures printer.out, O.taken printer.out) (O.failures result.1.out, O.taken result.1.out) fault) }
+    ensures format { F.kept result.1.format ≡ F.kept printer.format }
+{
+    let (round, printer) = update_manifest(rt, alloc, source, order, dry, kept, parker, printer);
+    match round {
+        Ok(Round::Remade) => (Ok(Done::Built), printer),
+        Ok(Round::Failed) => (Ok(Done::ManifestFails), printer),
+        Ok(Round::UpToDate(image)) => build_targets(
+            rt,
+            alloc,
+            image,
+            order,
+            dry,
+            kept.explainer(),
+            parker,
+            printer,
+        ),
+        Err(fault) => (Err(fault), printer),
+    }
+}
+
 /// Prints the marks of a build of a manifest's targets by a format, but runs no command and keeps no entry. Asks the world
 /// only for files and the record. Each command counts as one that ended with status 0, and leaves its outputs as they
-/// are. So an edge that uses outputs of a `restat` edge is listed only if it is out of date already.
+/// are. So an edge that uses outputs of a `restat` edge is listed only if it is out of date already. Returns how the
+/// build ended, the printer, and the numbers of commands that were listed.
 ///
 /// If the command of the edge that makes the manifest would run, the build ends after it, as `Built`: the content of
 /// the new manifest isn't known. The build never ends as `NeverSettles`.
@@ -96,7 +177,7 @@ pub fn do_dry_build<
     world: &W,
     parker: &Parker,
     printer: Printer<F, O>,
-) -> (Result<Done, PlanFault>, Printer<F, O>)
+) -> (Result<Done, PlanFault>, Printer<F, O>, Listed)
     ensures done { let a = defined.asked order.now.manifest.now order.now.options (map (λ n. n.now) order.now.targets.now) in
         IfOk result.0 (λ d. Previews (S.gives source.old) (by_format F.kept F.tells (F.kept printer.format)) (dry_rule W.allows) a (O.failures printer.out, O.taken printer.out) (O.failures result.1.out, O.taken result.1.out) d) }
     ensures read { OnOk result.0 (S.failures source.new ≡ S.failures source.old) }
@@ -105,12 +186,12 @@ pub fn do_dry_build<
         IfErr result.0 (λ fault. DryStops (S.gives source.old) missing (by_format F.kept F.tells (F.kept printer.format)) (dry_rule W.allows) a (O.failures printer.out, O.taken printer.out) (O.failures result.1.out, O.taken result.1.out) fault) }
     ensures format { F.kept result.1.format ≡ F.kept printer.format }
 {
-    let dry = DryWorld { world };
-    let (round, printer) = update_manifest(rt, alloc, source, order, &dry, parker, printer);
-    match round {
-        Ok(Round::Remade) => (Ok(Done::Built), printer),
-        Ok(Round::Failed) => (Ok(Done::ManifestFails), printer),
-        Ok(Round::UpToDate(image)) => build_targets(rt, alloc, image, order, &dry, parker, printer),
-        Err(fault) => (Err(fault), printer),
-    }
+    let dry = DryWorld {
+        rt,
+        world,
+        edges: Mutex::new(Vec::new(alloc)),
+    };
+    let mut kept = Kept::new(true);
+    let (done, printer) = build_dry(rt, alloc, source, order, &dry, &mut kept, parker, printer);
+    (done, printer, dry.listed(&kept))
 }

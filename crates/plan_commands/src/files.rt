@@ -21,8 +21,8 @@ pub const IMAGE_BYTES: u64 = MAX_IMAGE as u64 + 1;
 /// The most bytes that are read of a trace. A trace may have any length.
 pub const TRACE_BYTES: u64 = u64::MAX;
 
-/// The files of the system, by their paths. If a file can't be read, the cause is printed to standard error. This
-/// doesn't apply to missing manifests and to lack of memory, for which the fault is enough.
+/// The files of the system, by their paths. If a file can't be read, the cause is printed to standard error. It isn't
+/// printed if a manifest is missing or memory ran out, since the fault already says so.
 #[derive(Drop)]
 pub struct FileSource<'a, R> {
     rt: &'a R,

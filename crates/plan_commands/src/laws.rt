@@ -8,7 +8,7 @@ use plan_laws::{commands_run_once, finished_runs_are_right};
 use plan_scope::Source;
 use plan_status::Format;
 
-/// Proves that if a build ends with status 0, each wanted edge of the manifest that was read last began after
+/// States that if a build ends with status 0, each wanted edge of the manifest that was read last began after
 /// everything that it waits for had succeeded. Each of these edges was clean by its out-of-date rule, or its own
 /// command ran to exit status 0 in this build. The build may be shown by any format.
 pub fn build_is_right<S: Source, W: World, F: Format>()
@@ -17,7 +17,7 @@ pub fn build_is_right<S: Source, W: World, F: Format>()
     finished_runs_are_right::<W>();
 }
 
-/// Proves that if a build ends with no work to do, no wanted edge asked for a command in the run for the targets.
+/// States that if a build ends with no work to do, no wanted edge asked for a command in the run for the targets.
 pub fn idle_builds_run_nothing<S: Source, W: World, F: Format>()
     ensures { (source : S) (kept : F.Kept) → IdleBuildsRunNothing (S.gives source) (by_format F.kept F.tells kept) W.allows }
 {

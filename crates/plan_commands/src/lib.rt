@@ -3,8 +3,9 @@
 //! - `do_commands`, `do_compile`, `do_verify`, `do_dump`, `do_replay`, `do_compare`: read from sources, write to a
 //!   sink, and return the exit status.
 //! - `do_run`: runs an image in a world.
-//! - `do_build`: brings a manifest up to date, and builds its targets in a world. `do_dry_build`: runs no commands. Both
-//!   show their runs through a `Printer`: a format, and the sink for its texts.
+//! - `do_build`: brings a manifest up to date, and builds its targets in a world. `do_dry_build`: runs no commands, and
+//!   counts those that it listed (`Listed`). Both show their runs through a `Printer`: a format, and the sink for its
+//!   texts.
 //! - `build_is_right`, `idle_builds_run_nothing`: laws about the edges of a manifest when its build ends.
 //! - `PlanFault`: the reason why a command is refused, with the line that is printed. `printed_fault` and
 //!   `printed_graph_fault` convert faults of a manifest.
@@ -21,11 +22,13 @@ mod comparing;
 mod compile_fault;
 mod compiling;
 mod dry;
+mod explaining;
 mod fault;
 mod files;
 mod graph_fault;
 mod image_fault;
 mod images;
+mod kept;
 mod laws;
 mod printed_runs;
 mod replay_fault;
@@ -38,7 +41,7 @@ pub use building::{Done, Order, do_build};
 pub use commands::do_commands;
 pub use comparing::{Compared, do_compare};
 pub use compiling::do_compile;
-pub use dry::do_dry_build;
+pub use dry::{Listed, do_dry_build};
 pub use fault::{PlanFault, file_fault, lost_output, no_memory, printed_fault};
 pub use files::{FileSource, IMAGE_BYTES, MANIFEST_BYTES, NewFile, TRACE_BYTES};
 pub use graph_fault::printed_graph_fault;

@@ -136,8 +136,8 @@ fn tell<S: Source, W: Sink>(
 }
 
 /// Replays a trace of an image. Writes the status lines of the run, and then the outcome of each edge. Returns the
-/// status: 0 if all wanted edges succeeded, otherwise 1. Then no read and no write failed. The run kept to the rules:
-/// none of its events went wrong, its marks are orderly, and the number of its events is bounded.
+/// status: 0 if all wanted edges succeeded, otherwise 1. Then no read and no write failed. The run follows the rules of
+/// the machine: none of its events went wrong, its marks are orderly, and the number of its events is bounded.
 ///
 /// # Errors
 /// - The image is missing, isn't an image, or fails a check: the fault has the cause and the place. Nothing is written.

@@ -264,7 +264,7 @@ fn run_for_build<W: World + Send + Sync, O: Sink + Send + Drop, R: Threads + Wai
 
 /// Runs the image at a path with as many threads as commands may run at once, and prints the status lines while they
 /// work. Writes the trace if the run is to have one. Returns the status, and the sink. The status is 0 if all wanted
-/// edges succeeded, otherwise 1. Unpark `parker` to print the lines that are ready.
+/// edges succeeded, otherwise 1. To print the lines that are ready, unpark `parker`.
 ///
 /// If a run began, its whole trace is written, or a write of its file failed.
 ///

@@ -98,8 +98,8 @@ impl<R: Print> Sink for Standard<'_, R> {
 /// The number of standard streams: input, output and error.
 const STREAMS: i32 = 3;
 
-/// Opens `/dev/null` for each standard stream that is closed when the program starts. Returns these files, which the
-/// caller keeps until the program ends. So no file that is opened later gets the number of a stream, and no printed
+/// Opens `/dev/null` for each standard stream that is closed when the program starts. Returns these files. The caller
+/// must keep them until the program ends. So no file that is opened later gets the number of a stream, and no printed
 /// text ends up in it. A write to such a stream fails, since the file is open only for reading.
 ///
 /// # Errors

@@ -1,7 +1,7 @@
 //! Builds of manifests in memory. In most worlds here, the edge that builds the manifest is out of date `rounds` times.
 
-use crate::fakes::{Failing, Generator, Touched, Versions};
-use plan_commands::{Done, Order, PlanFault, Printer, do_build, do_dry_build};
+use crate::fakes::{Failing, Generator, Listening, Touched, Versions};
+use plan_commands::{Done, Listed, Order, PlanFault, Printer, do_build, do_dry_build};
 use plan_lanes::World;
 use plan_machine::Options;
 use plan_status::StatusLines;
@@ -29,6 +29,10 @@ const REMADE: &[u8] =
 /// A manifest that an edge builds, and whose default target `done` is up to date.
 const IDLE: &[u8] =
     b"rule make\n  command = make $out\n  generator = 1\nbuild build.ninja: make in\nbuild done: make in\ndefault done\n";
+
+/// A manifest with two commands that have `restat`, and one that doesn't.
+const WITH_RESTAT: &[u8] =
+    b"rule cc\n  command = cc $in -o $out\nrule gen\n  command = gen $out\n  restat = 1\nbuild a: gen in\nbuild b: cc a\nbuild c: gen b\n";
 
 /// Builds targets of a manifest that changes between its reads, and writes the lines to a sink.
 fn build_to<
@@ -80,12 +84,13 @@ fn built<'x, R: Threads + Wait + Sync + AllocGlobal, W: World + Send + Sync>(
     Ok((out.into_writer(), line_of(rt.alloc(), done)?))
 }
 
-/// Builds the default targets of a manifest without running a command.
+/// Builds the default targets of a manifest without running a command. Returns the numbers of commands that were listed,
+/// too.
 fn previewed<'x, R: Threads + Wait + Sync + AllocGlobal>(
     rt: &R,
     texts: &'x [&'x [u8]],
     world: &Generator,
-) -> Result<Told, Fail> {
+) -> Result<(Told, Listed), Fail> {
     let mut source = Versions::new(texts);
     let Some(options) = Options::new(1, 1) else {
         return Err(Fail::from(AllocError));
@@ -100,22 +105,45 @@ fn previewed<'x, R: Threads + Wait + Sync + AllocGlobal>(
         format: StatusLines::new(),
         out: Counted::new(Vec::new(rt.alloc())),
     };
-    let (done, printer) = do_dry_build(rt, rt.alloc(), &mut source, &order, world, &bell, printer);
+    let (done, printer, listed) = do_dry_build(
+        rt,
+        rt.alloc(),
+        &mut source,
+        &order,
+        world,
+        &bell,
+        printer,
+    );
     let Printer { out, .. } = printer;
-    Ok((out.into_writer(), line_of(rt.alloc(), done)?))
+    Ok(((out.into_writer(), line_of(rt.alloc(), done)?), listed))
 }
 
 /// Checks that a dry build prints the commands that a build would run, and runs none.
 #[test]
 fn dry_build_runs_nothing(rt: HostRuntime) -> Result<(), Fail> {
     let world = Generator::new(0, 0);
-    let (text, done) = previewed(&rt, &[PLAIN], &world)?;
+    let ((text, done), _) = previewed(&rt, &[PLAIN], &world)?;
     assert_eq!(rt; text.as_slice(), b"[1/1] cc in -o out\n".as_slice());
     assert!(rt; matches!(&done, Ok(Done::Built)));
     assert!(rt; world.commands() == 0);
-    let (text, done) = previewed(&rt, &[IDLE], &world)?;
+    let ((text, done), _) = previewed(&rt, &[IDLE], &world)?;
     assert!(rt; text.is_empty());
     assert!(rt; matches!(&done, Ok(Done::UpToDate)));
+    Ok(())
+}
+
+/// Checks that a dry build counts the commands that it listed, and those with `restat` among them.
+#[test]
+fn dry_build_counts_restat_commands(rt: HostRuntime) -> Result<(), Fail> {
+    let world = Generator::new(0, 0);
+    let (told, listed) = previewed(&rt, &[WITH_RESTAT], &world)?;
+    drop(told);
+    assert!(rt; listed.commands == 3);
+    assert!(rt; listed.restat == 2);
+    let (told, listed) = previewed(&rt, &[PLAIN], &world)?;
+    drop(told);
+    assert!(rt; listed.commands == 1);
+    assert!(rt; listed.restat == 0);
     Ok(())
 }
 
@@ -123,7 +151,7 @@ fn dry_build_runs_nothing(rt: HostRuntime) -> Result<(), Fail> {
 #[test]
 fn dry_build_ends_behind_the_maker(rt: HostRuntime) -> Result<(), Fail> {
     let world = Generator::new(1, 0);
-    let (text, done) = previewed(&rt, &[MADE, REMADE], &world)?;
+    let ((text, done), _) = previewed(&rt, &[MADE, REMADE], &world)?;
     assert_eq!(rt; text.as_slice(), b"[1/1] make build.ninja\n".as_slice());
     assert!(rt; matches!(&done, Ok(Done::Built)));
     assert!(rt; world.commands() == 0);
@@ -335,5 +363,26 @@ fn ends_have_statuses(rt: HostRuntime) -> Result<(), Fail> {
     ] {
         assert!(rt; done.status() == status);
     }
+    Ok(())
+}
+
+/// Builds `out` in a world that counts reasons. Checks that the world got this reason `times` times, and no other one.
+fn is_told<R: Threads + Wait + Sync + AllocGlobal>(
+    rt: &R,
+    basis: u64,
+    reason: &[u8],
+    times: u64,
+) -> Result<bool, Fail> {
+    let world = Listening::new(rt.alloc(), basis, reason);
+    let (_text, done) = built(rt, &[PLAIN], &[], &world)?;
+    Ok(done.is_ok() && world.counts() == (times, 0))
+}
+
+/// Checks that the world gets the reason of a command before the command runs, and no reason if no command runs.
+#[test]
+fn commands_are_explained(rt: HostRuntime) -> Result<(), Fail> {
+    let reason = b"input in is newer than what the last build read";
+    assert!(rt; is_told(&rt, 3, reason, 1)?);
+    assert!(rt; is_told(&rt, 7, b"", 0)?);
     Ok(())
 }

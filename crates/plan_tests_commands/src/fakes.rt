@@ -142,6 +142,10 @@ impl World for Fresh {
         false
     }
 
+    fn observes() -> bool {
+        false
+    }
+
     fn stat(&self, _number: u64, path: &[u8]) -> Result<Reply, AllocError> {
         Ok(Reply::Stamp(if path == b"out".as_slice() { 0 } else { 1 }))
     }
@@ -222,6 +226,10 @@ impl World for Generator {
         false
     }
 
+    fn observes() -> bool {
+        false
+    }
+
     fn stat(&self, _number: u64, path: &[u8]) -> Result<Reply, AllocError> {
         Ok(Reply::Stamp(self.stamp(path)))
     }
@@ -275,6 +283,10 @@ impl World for Touched {
         false
     }
 
+    fn observes() -> bool {
+        false
+    }
+
     fn stat(&self, _number: u64, path: &[u8]) -> Result<Reply, AllocError> {
         Ok(Reply::Stamp(if path == b"in".as_slice() { 7 } else { 9 }))
     }
@@ -309,5 +321,98 @@ impl World for Touched {
         _paths: &PathList,
     ) -> Result<Reply, AllocError> {
         Ok(Reply::Kept)
+    }
+}
+
+/// The world `Touched`, whose runs keep their journals. It counts how often it gets a reason for which `out` is built.
+#[derive(Drop)]
+pub struct Listening<'a> {
+    pub world: Touched,
+    pub reason: &'a [u8],
+    /// How often the world got this reason for `out`.
+    pub told: AtomicU64,
+    /// How often the world got another reason, or one for another edge.
+    pub others: AtomicU64,
+}
+
+impl<'a> Listening<'a> {
+    pub fn new(alloc: Global, basis: u64, reason: &'a [u8]) -> Listening<'a> {
+        Listening {
+            world: Touched { alloc, basis },
+            reason,
+            told: AtomicU64::new(0),
+            others: AtomicU64::new(0),
+        }
+    }
+
+    /// Returns how often the world got the reason for `out`, and how often it got anything else.
+    pub fn counts(&self) -> (u64, u64) {
+        (
+            self.told.load(Ordering::SeqCst),
+            self.others.load(Ordering::SeqCst),
+        )
+    }
+}
+
+impl World for Listening<'_> {
+    ghost use Rattle.std.specs.Prelude.{◌≡◌, ⊤, false, true};
+
+    ghost allows = { λ number request reply. ⊤ };
+
+    ghost keeps = { false };
+
+    fn keeps_journal() -> bool
+        ensures { result ≡ false }
+    {
+        false
+    }
+
+    ghost observes = { true };
+
+    fn observes() -> bool
+        ensures { result ≡ true }
+    {
+        true
+    }
+
+    fn stat(&self, number: u64, path: &[u8]) -> Result<Reply, AllocError> {
+        self.world.stat(number, path)
+    }
+
+    fn recall(&self, number: u64, output: &[u8]) -> Result<Reply, AllocError> {
+        self.world.recall(number, output)
+    }
+
+    fn explain(&self, edge: &[u8], reason: &[u8]) {
+        if edge == b"out".as_slice() && reason == self.reason {
+            self.told.fetch_add(1, Ordering::SeqCst);
+        } else {
+            self.others.fetch_add(1, Ordering::SeqCst);
+        }
+    }
+
+    fn run(
+        &self,
+        number: u64,
+        command: &[u8],
+        outputs: &RowList<u8>,
+        permit: Permit,
+    ) -> Result<Reply, AllocError> {
+        self.world.run(number, command, outputs, permit)
+    }
+
+    fn read_depfile(&self, number: u64, path: &[u8]) -> Result<Reply, AllocError> {
+        self.world.read_depfile(number, path)
+    }
+
+    fn keep(
+        &self,
+        number: u64,
+        output: &[u8],
+        command: &[u8],
+        basis: u64,
+        paths: &PathList,
+    ) -> Result<Reply, AllocError> {
+        self.world.keep(number, output, command, basis, paths)
     }
 }

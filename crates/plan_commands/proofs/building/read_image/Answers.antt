@@ -9,6 +9,11 @@ image_to_run-image-requires g c =
     let meant = c.in-Ok.ensures.meant in
     c.loaded_manifests_are_sound.ensures c.args.source.now (g.S.Source.failures c.args.source.now) (g.S.Source.failures c.manifest_at.new.source) c.args.path.now meant.0 c.in-Ok.manifest meant.1 meant.2
 
+pub keep-requires : goal.keep-requires
+keep-requires g c =
+    let meant = c.in-Ok.ensures.meant in
+    c.loaded_manifests_are_sound.ensures c.args.source.now (g.S.Source.failures c.args.source.now) (g.S.Source.failures c.manifest_at.new.source) c.args.path.now meant.0 c.in-Ok.manifest meant.1 meant.2
+
 pub returns-clause-read : goal.returns-clause-read
 returns-clause-read g c =
     read_of (g.S.Source.gives c.args.source.now) (g.S.Source.fails c.args.source.now) (g.S.Source.failures c.args.source.now) (g.S.Source.failures c.manifest_at.new.source) c.args.path.now c.in-Ok.manifest _

@@ -3,7 +3,7 @@ use Rattle.plan_commands.proofs.BuildingLemmas.{err_so, round_so}
 use Rattle.plan_commands.proofs.DryLemmas.{previewed, stopped}
 use Rattle.plan_commands.specs.Dry.{dry_rule}
 use Rattle.plan_commands.specs.Showing.{by_format}
-use Rattle.plan_commands.proofs.dry.do_dry_build.Goals as goal
+use Rattle.plan_commands.proofs.dry.build_dry.Goals as goal
 
 pub returns-in-Ok-Remade-clause-done : goal.returns-in-Ok-Remade-clause-done
 returns-in-Ok-Remade-clause-done g c =
