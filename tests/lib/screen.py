@@ -8,9 +8,9 @@ from lib.suite import check
 
 
 class Screen:
-    """A terminal that knows what the text of a build uses: its lines, without the empty ones at its end."""
+    """A terminal that knows what the text of a build uses. Its lines have no colours."""
 
-    CODES = re.compile(rb"\r|\n|\x1b\[K|\x1b\[\?7[lh]|[^\r\n\x1b]+")
+    CODES = re.compile(rb"\r|\n|\x1b\[K|\x1b\[\?7[lh]|\x1b\[[0-9;]*m|[^\r\n\x1b]+")
 
     def __init__(self, shown: bytes, width: int = 80) -> None:
         self.rows, self.row, self.column, self.wraps, self.width = [b""], 0, 0, True, width
@@ -31,6 +31,8 @@ class Screen:
             self.rows += [b""] * (self.row == len(self.rows))
         elif code == b"\x1b[K":
             self.rows[self.row] = self.rows[self.row][:self.column]
+        elif code.startswith(b"\x1b") and code.endswith(b"m"):
+            pass
         elif code.startswith(b"\x1b"):
             self.wraps = code.endswith(b"h")
         else:

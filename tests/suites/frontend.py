@@ -232,11 +232,16 @@ def nothing_to_do(place: Place) -> None:
     expect("again", ("[1/1] b\n", "", 0), says(place))
 
 
+def names_in(printed: str) -> list[str]:
+    """Returns the labels of lines, sorted."""
+    return sorted(line.partition("] ")[2] for line in printed.splitlines())
+
+
 def labels(place: Place, *words: str) -> list[str]:
     """Runs the builder, which must end well, and returns the labels of its lines, sorted."""
     printed, error, status = says(place, *words)
     expect("status and errors", (0, ""), (status, error))
-    return sorted(line.partition("] ")[2] for line in printed.splitlines())
+    return names_in(printed)
 
 
 def dry_runs(place: Place) -> None:
@@ -259,6 +264,48 @@ def dry_run_of_the_manifest(place: Place) -> None:
     expect("made", 0, place.done("build.ninja").returncode)
     expect("is made", (NO_WORK, "", 0), says(place, "-n", "build.ninja"))
     expect("built", False, place.has("late"))
+
+
+RESTAT = """rule copy
+  command = cp $in $out
+  description = $out
+rule keep
+  command = cmp -s $in $out || cp $in $out
+  description = $out
+  restat = 1
+build a: keep in
+build b: keep in
+build c: copy a
+build d: copy other
+build e: copy d
+default b c e
+"""
+NOTE_ON_ONE = "ninja: note: 1 of these commands has restat: if it changes its outputs, more commands may run\n"
+NOTE_ON_TWO = "ninja: note: 2 of these commands have restat: if they change their outputs, more commands may run\n"
+
+
+def dry_run_of_restat_commands(place: Place) -> None:
+    """-n says that more commands may run, if it lists a command with restat, and not all commands."""
+    programs.write({"build.ninja": RESTAT, "in": "", "other": ""}, place.folder)
+    for name in ("in", "other"):
+        os.utime(place.folder / name, (1, 1))
+    expect("first", ["a", "b", "c", "d", "e"], labels(place, "-n"))
+    expect("built", 0, place.done().returncode)
+    expect("then", (NO_WORK, "", 0), says(place, "-n"))
+    (place.folder / "other").touch()
+    expect("without restat", ("[1/2] d\n[2/2] e\n", "", 0), says(place, "-n", "-j1"))
+    expect("built again", 0, place.done().returncode)
+    (place.folder / "in").write_text("changed")
+    printed, error, status = says(place, "-n")
+    expect("with restat", (["a", "b"], NOTE_ON_TWO, 0), (names_in(printed), error, status))
+    printed, error, status = says(place, "-n", "c")
+    expect("of a target", (["a"], NOTE_ON_ONE, 0), (names_in(printed), error, status))
+    expect("of all", ("[1/1] a\n", "", 0), says(place, "-n", "a"))
+    expect("quiet", ("", "", 0), says(place, "-n", "--quiet"))
+    printed, error, status = says(place, "-t", "explain", "c")
+    expect("explained", (["a"], NOTE_ON_ONE, 0), (names_in(printed), error.splitlines(True)[-1], status))
+    expect("in a pipe", f"[1/2] a\n{NOTE_ON_ONE}", place.done("-n", "c", stderr=subprocess.STDOUT).stdout.decode())
+    expect("not made", 0, (place.folder / "a").stat().st_size)
 
 
 def failures(place: Place) -> None:
@@ -670,9 +717,10 @@ def nested_build(place: Place) -> None:
 
 
 TRIALS: tuple[Callable[[Place], None], ...] = (
-    called_ninja, about, nothing_to_do, dry_runs, dry_run_of_the_manifest, failures, limited_jobs, another_folder,
-    missing_manifest, refused_manifest, long_line, manifest_makes_itself, manifest_never_settles, manifest_fails,
-    manifest_as_target, closed_streams, reader_goes_away, read_only_folder, console_reads_the_terminal,
+    called_ninja, about, nothing_to_do, dry_runs, dry_run_of_the_manifest, dry_run_of_restat_commands, failures,
+    limited_jobs, another_folder, missing_manifest, refused_manifest, long_line, manifest_makes_itself,
+    manifest_never_settles, manifest_fails, manifest_as_target, closed_streams, reader_goes_away, read_only_folder,
+    console_reads_the_terminal,
     key_ends_all(b"\x03", signal.SIGINT), key_ends_all(b"\x1c", signal.SIGQUIT), ctrl_z, killed, half_outputs_run_again,
     hangup_is_ignored_under_nohup, second_build_waits, nested_build, edited_during_its_command,
     generator_compares_its_outputs)

@@ -13,6 +13,7 @@ import pty
 import re
 import shutil
 import subprocess
+import sys
 import time
 from collections.abc import Iterator, Sequence
 from typing import Callable, List, NamedTuple, Tuple
@@ -99,11 +100,25 @@ def failures_side_by_side(builder: str, folder: pathlib.Path) -> None:
 
 
 def while_the_console_is_used(builder: str, folder: pathlib.Path) -> None:
-    """A label and its output wait until the command of a console edge has ended."""
+    """The label of a console command comes before its output. Labels and outputs of others wait until it has ended."""
     gated = "touch begun; while ! [ -e b ]; do sleep 0.02; done; sleep 0.3; echo asked; touch $out"
     write(folder, [Edge("a", gated, more="  pool = console\n"),
                    Edge("b", "while ! [ -e begun ]; do sleep 0.02; done; echo text; touch $out")])
-    expect("said", ("asked\n[1/2] b\ntext\n[2/2] a\n", "", 0), says(builder, folder, "-j", "2"))
+    expect("said", ("[0/2] a\nasked\n[1/2] b\ntext\n", "", 0), says(builder, folder, "-j", "2"))
+
+
+def label_before_a_console_command(builder: str, folder: pathlib.Path) -> None:
+    """What belongs before a console command is printed before it, however soon it starts; so does ninja."""
+    ninja = shutil.which("ninja")
+    edges = [Edge("a", "echo warning; touch $out"), Edge("b", "echo another; touch $out", "a"),
+             Edge("c", "echo question; touch $out", "b", "  pool = console\n"), Edge("d", "echo end; touch $out", "c")]
+    said = ("[1/4] a\nwarning\n[2/4] b\nanother\n[2/4] c\nquestion\n[4/4] d\nend\n", "", 0)
+    for program in [builder] * 10 + [ninja] * (ninja is not None):
+        for jobs in ("1", "4"):
+            for edge in edges:
+                (folder / edge.name()).unlink(missing_ok=True)
+            write(folder, edges)
+            expect(f"{program} said at -j {jobs}", said, says(program, folder, "-j", jobs))
 
 
 def manifest_made_again(builder: str, folder: pathlib.Path) -> None:
@@ -123,6 +138,55 @@ def large(builder: str, folder: pathlib.Path) -> None:
     texts = {edge.name(): f"{edge.name()}\n".encode() for edge in edges}
     whole = {name: (text * (LARGE // len(text) + 1))[:LARGE] for name, text in texts.items()}
     blocks(done.stdout, {name: text if text.endswith(b"\n") else text + b"\n" for name, text in whole.items()})
+
+
+# ---- outputs that wait
+
+# Runs a program and writes its greatest size to a file. A child counts the size of the process that started it, so a
+# small process starts it, and not the one that has run all suites.
+SIZED = """import resource, subprocess, sys
+status = subprocess.call(sys.argv[2:], stdin=subprocess.DEVNULL, stderr=subprocess.DEVNULL)
+with open(sys.argv[1], "w") as size:
+    size.write(str(resource.getrusage(resource.RUSAGE_CHILDREN).ru_maxrss))
+sys.exit(status)
+"""
+
+
+def greatest_size(words: Sequence[str], folder: pathlib.Path, late: float, full: bool) -> Tuple[int, int]:
+    """Builds, and returns the status and the greatest size of the builder in bytes.
+
+    Nobody reads its output for `late` seconds, or each write of it fails.
+    """
+    size = folder / "size"
+    sized = [sys.executable, "-c", SIZED, str(size), *words]
+    if full:
+        with open("/dev/full", "wb") as out:
+            status = subprocess.call(sized, cwd=folder, stdin=subprocess.DEVNULL, stdout=out)
+    else:
+        child = subprocess.Popen(sized, cwd=folder, stdin=subprocess.DEVNULL, stdout=subprocess.PIPE)
+        assert child.stdout
+        time.sleep(late)
+        while child.stdout.read(1 << 20):
+            pass
+        child.stdout.close()
+        status = child.wait()
+    return status, int(size.read_text()) * 1024
+
+
+def outputs_are_limited(builder: str, folder: pathlib.Path) -> None:
+    """Outputs of 400 MB that wait to be printed take less than 200 MB."""
+    write(folder, [Edge(f"out{number}", "head -c 4000000 /dev/zero; touch $out") for number in range(100)])
+    status, size = greatest_size([builder, "-j", "4"], folder, 4, False)
+    expect("status", 0, status)
+    check(size < 200_000_000, f"the builder took {size} bytes")
+
+
+def lost_outputs_are_dropped(builder: str, folder: pathlib.Path) -> None:
+    """After a write has failed, outputs aren't kept."""
+    write(folder, [Edge(f"out{number}", "head -c 4000000 /dev/zero; touch $out") for number in range(50)])
+    status, size = greatest_size([builder, "-j", "4"], folder, 0, True)
+    expect("status", 1, status)
+    check(size < 80_000_000, f"the builder took {size} bytes")
 
 
 # ---- texts, word for word
@@ -147,7 +211,11 @@ TEXTS = {
     "an output that looks like a label": Text((Edge("a", "echo '[7/9] x'; touch $out"), *CHAIN[1:]),
                                               "[1/2] a\n[7/9] x\n[2/2] b\n"),
     "no description": Text((Edge("a", "touch $out", more="  description =\n"),), "[1/1] touch a\n"),
-    "console": Text((Edge("a", "echo text; touch $out", more="  pool = console\n"),), "text\n[1/1] a\n"),
+    "console": Text((Edge("a", "echo text; touch $out", more="  pool = console\n"),), "[0/1] a\ntext\n"),
+    "console, failure": Text((Edge("a", "echo text; exit 3", more="  pool = console\n"),),
+                             f"[0/1] a\ntext\nFAILED: [code=3] a \necho text; exit 3\n{STOPPED}", 1),
+    "console, --quiet": Text((Edge("a", "echo text; touch $out", more="  pool = console\n"),), "text\n",
+                             words="--quiet"),
     "failure": Text(FAILING, f"[1/1] a\nFAILED: [code=3] a also \necho text; exit 3\ntext\n{STOPPED}", 1),
     "failure without a line feed": Text((Edge("a", "printf text; exit 1"),), "[1/1] a\nFAILED: [code=1] a \n"
                                         f"printf text; exit 1\ntext\n{STOPPED}", 1),
@@ -168,13 +236,19 @@ TEXTS = {
                              f"[1/2] a\nFAILED: [code=1] a \nexit 1\n1 skipped\n{STOPPED}", 1),
     "one edge not started": Text((Edge("a", "exit 1"), Edge("b", "touch $out")),
                                  f"[1/2] a\nFAILED: [code=1] a \nexit 1\n1 not started\n{STOPPED}", 1),
-    "one that needs an edge not started": Text((Edge("a", "exit 1"), Edge("b", "touch $out", "c"), Edge("c", "true")),
-                                               "[1/3] a\nFAILED: [code=1] a \nexit 1\n1 skipped, 1 not started\n"
+    "one that needs an edge not started": Text((Edge("a", "exit 1"), Edge("b", "touch $out", "c"), Edge("c", "true"),
+                                                Edge("d", "touch $out", "a")),
+                                               "[1/4] a\nFAILED: [code=1] a \nexit 1\n2 skipped, 1 not started\n"
                                                f"{STOPPED}", 1),
+    "long chains first": Text((Edge("a", "touch $out"), Edge("b", "touch $out"), Edge("c", "touch $out"),
+                               Edge("d", "touch $out", "c"), Edge("e", "touch $out", "d"),
+                               Edge("f", "touch $out", "b")),
+                              "".join(f"[{number}/6] {name}\n" for number, name in enumerate("cbdaef", 1)),
+                              words="-j1"),
     "skipped with -k 2": Text((Edge("a", "exit 1"), Edge("b", "touch $out"), Edge("c", "touch $out", "a")),
                               "[1/3] a\nFAILED: [code=1] a \nexit 1\n[2/3] b\n1 skipped\n"
                               "ninja: build stopped: cannot make progress due to previous errors.\n", 1, "-j1 -k2"),
-    "two failures with -k 2": Text((Edge("a", "exit 1"), Edge("b", "exit 2"), Edge("c", "touch $out", "b")),
+    "two failures with -k 2": Text((Edge("a", "exit 1"), Edge("b", "exit 2"), Edge("c", "touch $out", "a b")),
                                    "[1/3] a\nFAILED: [code=1] a \nexit 1\n[2/3] b\nFAILED: [code=2] b \nexit 2\n"
                                    "1 skipped\nninja: build stopped: subcommands failed.\n", 1, "-j1 -k2"),
     "-v": Text((Edge("a", f"{BOTH}; touch $out"), *CHAIN[1:]),
@@ -229,17 +303,26 @@ def tree() -> List[Edge]:
 
 
 def one_change(jobs: str, builder: str, folder: pathlib.Path) -> None:
-    """After one source is touched, m is the number of commands that run, as with ninja.
-
-    Only at -j 1 the first command runs before the other program turns out to be clean.
-    """
+    """After one source is touched, m is the number of commands that run, as with ninja."""
     programs.write({f"s{number}": "" for number in range(42)}, folder)
     write(folder, tree())
     expect("status of the first build", 0, says(builder, folder, "-j", "64")[2])
     time.sleep(TICK)
     (folder / "s10").touch()
-    first = "[1/4]" if jobs == "1" else "[1/3]"
-    expect("said", (f"{first} o10\n[2/3] l1\n[3/3] p0\n", "", 0), says(builder, folder, "-j", jobs))
+    expect("said", ("[1/3] o10\n[2/3] l1\n[3/3] p0\n", "", 0), says(builder, folder, "-j", jobs))
+
+
+def labels_before_commands(builder: str, folder: pathlib.Path) -> None:
+    """At -j 1 the label of a command is printed while the next one runs: each command waits for the label before."""
+    log = folder / "log"
+    waits = "for i in $$(seq 600); do grep -q ' {before}$$' log && exec touch $out; sleep 0.05; done; exit 1"
+    names = [f"a{number}" for number in range(9)]
+    write(folder, [Edge(names[0], "touch $out"),
+                   *(Edge(name, waits.format(before=before)) for before, name in zip(names, names[1:]))])
+    with log.open("wb") as out:
+        done = subprocess.run([builder, "-j", "1"], cwd=folder, stdin=subprocess.DEVNULL, stdout=out)
+    lines = "".join(f"[{number}/9] {name}\n" for number, name in enumerate(names, 1))
+    expect("status and log", (0, lines), (done.returncode, log.read_text()))
 
 
 def clean_after_a_restat(builder: str, folder: pathlib.Path) -> None:
@@ -325,6 +408,7 @@ def on_terminal(builder: str, folder: pathlib.Path, kind: str, *words: str, **mo
 
 
 LONG = "x" * 100
+RED = b"\x1b[31mFAILED: \x1b[0m"
 FIRST = Edge("a", "touch $out")
 SHOWN = (  # each edge needs the one before, so that they end in their order
     ("nothing printed", [FIRST, Edge(f"b{LONG}", "touch $out", "a")], (), 0, [f"[2/2] b{LONG}"[:80]]),
@@ -333,6 +417,10 @@ SHOWN = (  # each edge needs the one before, so that they end in their order
     ("an output at the end", [FIRST, Edge("b", "printf end; touch $out", "a")], (), 0, ["[2/2] b", "end"]),
     ("a failure", [FIRST, Edge("b", "echo bad; exit 3", "a"), Edge("c", "touch $out", "b")], (), 1,
      ["[2/3] b", "FAILED: [code=3] b ", "echo bad; exit 3", "bad", "1 skipped", STOPPED.strip()]),
+    ("a console command", [Edge("a", "echo warning; touch $out"),
+                           Edge("b", "echo question; touch $out", "a", "  pool = console\n"),
+                           Edge("c", "touch $out", "b")], (), 0,
+     ["[1/3] a", "warning", "[1/3] b", "question", "[3/3] c"]),
     ("commands", [FIRST], ("-v",), 0, ["[1/1] touch a"]),
     ("only failures", [Edge("a", "echo loud; touch $out"), Edge("b", "false", "a")], ("--quiet",), 1,
      ["FAILED: [code=1] b ", "false", STOPPED.strip()]),
@@ -350,6 +438,22 @@ def screen_is(edges: Sequence[Edge], words: Sequence[str], status: int, rows: Se
         check(f"[0/{len(edges)}] a".encode() in shown, f"no line for a command that starts: {shown!r}")
 
 
+def failed_in_red(builder: str, folder: pathlib.Path) -> None:
+    """`FAILED:` is red if escape sequences are wanted, as with ninja."""
+    ninja = shutil.which("ninja")
+    write(folder, [Edge("a", "exit 3")])
+    for program in [builder] + [ninja] * (ninja is not None):
+        for kind, wanted in (("xterm", True), ("dumb", False)):
+            shown, status = on_terminal(program, folder, kind)
+            expect("status", 1, status)
+            expect(f"{program} showed red on {kind}", (wanted, not wanted),
+                   (RED in shown, b"FAILED: " in shown.replace(RED, b"")))
+        for forced, wanted in (("1", True), ("0", False)):
+            done = subprocess.run([program], cwd=folder, stdin=subprocess.DEVNULL, capture_output=True,
+                                  timeout=programs.SECONDS, env={**os.environ, "CLICOLOR_FORCE": forced})
+            expect(f"{program} printed red with CLICOLOR_FORCE={forced}", wanted, RED in done.stdout)
+
+
 def dumb_terminal(builder: str, folder: pathlib.Path) -> None:
     """On a terminal without escape sequences each command has a line."""
     write(folder, [FIRST, Edge("b", "touch $out", "a")])
@@ -365,7 +469,7 @@ TEMPLATES = {
     "numbers": (NUMBERS, ["1/3  33% 1 2 1%: a", "2/3  66% 1 1 2%: b", "3/3 100% 1 0 3%: c"]),
     "no text": ("", ["a", "b", "c"]),
     "text only": ("» 100%%s ", ["» 100%s a", "» 100%s b", "» 100%s c"]),
-    "unmeasured": ("[%E %c] ", [f"[? ?] {name}" for name in "abc"]),
+    "predicted percentage": ("%P ", [" 33% a", " 66% b", "100% c"]),
 }
 IN_ORDER = (Edge("a", "touch $out"), Edge("b", "touch $out", "a"), Edge("c", "touch $out", "b"))
 REFUSED = {"%f %x": "x", "%": "\0", "%f %%%": "\0", "%y": "y"}
@@ -379,12 +483,12 @@ def with_template(template: str, builder: str, folder: pathlib.Path, *words: str
 
 
 def template_is_shown(template: str, lines: Sequence[str], builder: str, folder: pathlib.Path) -> None:
-    """Each label comes after the text of the template, as with ninja if all of it is measured."""
+    """Each label comes after the text of the template, as with ninja if ninja 1.11 knows all placeholders."""
     write(folder, IN_ORDER)
     said = ("".join(f"{line}\n" for line in lines), "", 0)
     expect("said", said, with_template(template, builder, folder, "-j", "1"))
     ninja = shutil.which("ninja")
-    if ninja and "%E" not in template:
+    if ninja and "%P" not in template:
         for edge in IN_ORDER:
             (folder / edge.name()).unlink()
         expect("ninja said", said, with_template(template, ninja, folder, "-j", "1"))
@@ -429,6 +533,42 @@ def times(builder: str, folder: pathlib.Path) -> None:
             check(abs(rate - number / passed) <= 0.06, f"{program} said {line!r}")
 
 
+def time_left(builder: str, folder: pathlib.Path) -> None:
+    """`%E` is the time so far when half of the commands have finished, and 0 at the end. ninja 1.11 doesn't have it."""
+    write(folder, [Edge("a", "sleep 0.3; touch $out"), Edge("b", "touch $out", "a")])
+    printed, error, status = with_template("%e %E %w %W ", builder, folder, "-j", "1")
+    expect("errors and status", ("", 0), (error, status))
+    said = re.fullmatch(r"(\d+\.\d{3}) \1 (00:\d\d) \2 a\n\d+\.\d{3} 0\.000 00:\d\d 00:00 b\n", printed)
+    check(said is not None, f"{builder} said {printed!r}")
+
+
+def rate_of_the_last(builder: str, folder: pathlib.Path) -> None:
+    """`%c` isn't known when the first command has finished. Then it is 2, divided by the time between both ends."""
+    ninja = shutil.which("ninja")
+    for program in [builder] + [ninja] * (ninja is not None):
+        place = folder / pathlib.Path(program).name
+        place.mkdir()
+        write(place, [Edge("a", "touch $out"), Edge("b", "sleep 0.3; touch $out", "a")])
+        printed, error, status = with_template("%e %c ", program, place, "-j", "8")
+        expect("errors and status", ("", 0), (error, status))
+        said = re.fullmatch(r"(\d+\.\d{3}) \? a\n(\d+\.\d{3}) (\d+\.\d) b\n", printed)
+        check(said is not None, f"{program} said {printed!r}")
+        assert said
+        between = float(said[2]) - float(said[1])
+        check(abs(float(said[3]) - 2 / between) <= 0.06, f"{program} said {printed!r}")
+
+
+def only_command_on_terminal(builder: str, folder: pathlib.Path) -> None:
+    """The command that still runs when all others have ended is shown after their text."""
+    write(folder, [Edge("a", "while ! [ -e b ]; do sleep 0.02; done; sleep 0.3; touch $out"),
+                   Edge("b", "while ! [ -e c ]; do sleep 0.02; done; sleep 0.3; echo text; touch $out"),
+                   Edge("c", "touch $out")])
+    shown, status = on_terminal(builder, folder, "xterm", "-j", "3")
+    lines = [re.sub(rb"\x1b\[[?0-9]*[a-zA-Z]", b"", line).strip() for line in shown.split(b"\r")]
+    wanted = [b"[1/3] c", b"[2/3] b", b"text", b"[2/3] a", b"[3/3] a"]
+    expect("shown", (wanted, 0), ([line for line in lines if line][-len(wanted):], status))
+
+
 def numbers_on_terminal(builder: str, folder: pathlib.Path) -> None:
     """A command that starts shows numbers too, and so does ninja."""
     ninja = shutil.which("ninja")
@@ -463,6 +603,7 @@ def cases(setting: Setting) -> Iterator[Case]:
         yield Case(name, functools.partial(text_is, text, builder))
     for jobs in ("1", "2", "4"):
         yield Case(f"one change at -j {jobs}", functools.partial(one_change, jobs, builder))
+    yield Case("labels before commands", functools.partial(labels_before_commands, builder))
     for kind, build in MISSING.items():
         yield Case(f"missing source {kind}", functools.partial(missing, build, builder))
     for redirection in (">&-", ">/dev/full"):
@@ -478,6 +619,7 @@ def cases(setting: Setting) -> Iterator[Case]:
     trials: Tuple[Callable[[str, pathlib.Path], None], ...] = (
         failures_side_by_side, while_the_console_is_used, manifest_made_again, large, failure_among_many,
         clean_after_a_restat, missing_with_others, numbers_side_by_side, missing_source_has_started,
-        times, numbers_on_terminal)
+        times, time_left, rate_of_the_last, only_command_on_terminal, numbers_on_terminal, failed_in_red,
+        label_before_a_console_command, outputs_are_limited, lost_outputs_are_dropped)
     for trial in trials:
         yield Case(trial.__name__.replace("_", " "), functools.partial(trial, builder))

@@ -347,6 +347,7 @@ OWN = {
   recompact  recompacts ninja-internal data structures
      restat  restats all outputs in the build log
   cleandead  clean built files that are no longer produced by the manifest
+    explain  say which commands would run, and why
 """),
     "-t list all": Told(1, "", "ninja: error: -t list takes no word 'all'\n"),
     "-t cleam": Told(1, "", "ninja: fatal: unknown tool 'cleam', did you mean 'clean'?\n"),
@@ -423,7 +424,7 @@ def clean_in_a_build(place: Place) -> None:
     """CMake's and Meson's targets for cleaning call the tool in a command."""
     place.write("a touch $out", f"b '{place.builder}' -t clean a", pool="console")
     expect("built", 0, place.done("a").returncode)
-    expect("cleaned", "Cleaning... 1 files.\n[1/1] b\n", says(place, "b")[0])
+    expect("cleaned", "[0/1] b\nCleaning... 1 files.\n", says(place, "b")[0])
     expect("a is there", False, place.has("a"))
 
 

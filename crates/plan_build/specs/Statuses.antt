@@ -1,4 +1,4 @@
--- What the exit status 0 of a build says.
+-- The meaning of the exit status 0 of a build.
 use Rattle.std.specs.Prelude.{◌≡◌, ◌⊎◌, ◌^◌, ◌-◌, ℕ, Bool, false, List, [], ◌∷◌, Option, Some}
 use Rattle.std.specs.Option.{unwrap_or}
 use Rattle.plan_scope.specs.Scopes.{Text}
@@ -28,11 +28,11 @@ default_manifest = 98 ∷ 117 ∷ 105 ∷ 108 ∷ 100 ∷ 46 ∷ 110 ∷ 105 ∷
 abbrev pub manifest_in : List Argument → Text
 manifest_in line = unwrap_or (last_value setting.Manifest line) default_manifest
 
--- The options of a build, if `-j` isn't given: this many jobs.
+-- The options of a build. If `-j` isn't given, it has this many jobs.
 abbrev pub limits_of : List Argument → ℕ → Limits
 limits_of line default = record { jobs = unwrap_or (jobs line) default; keep = failures (2 ^ 32 - 1) line }
 
--- What a command line asks a build for.
+-- The build that a command line asks for.
 abbrev pub asked_by : List Argument → (default : ℕ) → Asked
 asked_by line default = asked (manifest_in line) (limits_of line default) (targets line)
 
@@ -45,15 +45,16 @@ style_of other = style.Labels
 abbrev pub style_in : List Argument → Style
 style_in line = style_of (verbosity line)
 
--- How the text of a build is shown: commands in this style, perhaps on a terminal, and after the text of this template.
-abbrev pub display_in : List Argument → Bool → (template : List ℕ) → Look
-display_in line on_terminal template = record { style = style_in line; on_terminal = on_terminal; template = template }
+-- How the text of a build is shown: commands in this style, perhaps on a terminal and in colours, and after the text of
+-- this template.
+abbrev pub display_in : List Argument → Bool → (colours : Bool) → (template : List ℕ) → Look
+display_in line on_terminal colours template = record { style = style_in line; on_terminal = on_terminal; colours = colours; template = template }
 
--- Runs are shown as the text of a build, in this way. An H gives the outputs of commands, and the time: `taken` says
--- which outputs, and `showed` which milliseconds.
+-- Runs are shown as the text of a build, in this way. An H returns the outputs of commands, and the time. `taken` is
+-- the relation of these outputs, and `showed` of the time in milliseconds.
 abbrev pub as_build : (H : Type 0) → (H → List ℕ → Option (List ℕ) → Type 0) → (H → ℕ → Type 0) → Look → Shown
 as_build H taken showed look =
-    by_format (λ (f : BuildLines H). look_of f.display) (λ (f : BuildLines H). TellsBuild (taken f.outputs.now) (showed f.outputs.now) (look_of f.display) f.counts f.line_open) look
+    by_format (λ (f : BuildLines H). look_of f.display) (λ (f : BuildLines H). TellsBuild (taken f.outputs.now) (showed f.outputs.now) (look_of f.display) f.counts f.line_open f.running.items f.times.items) look
 
 -- A manifest may have any contents, and reading it may fail.
 abbrev pub any_contents : FileContents
@@ -78,14 +79,14 @@ pub record HasUnknownTarget (shown : Shown) (rule : Rule) (a : Asked) : Type 0 w
   pub number : fault.number ≡ 132
   pub stopped : Stops any_contents (IsMissing any_contents any_path reads failed) shown rule a before after fault
 
--- A build ended with status 0, by its own exit status.
+-- A build ended with exit status 0.
 pub record EndedWell (shown : Shown) (rule : Rule) (a : Asked) : Type 0 where
   pub done : Done
   pub ended : Ended shown rule a done
   pub well : exit_status done ≡ 0
 
--- What a status of 0 says of a command line without `-n`: its build succeeded, and its runs were shown in this way. Or
--- one of its targets is unknown to the manifest, and the words name other paths.
+-- The meaning of status 0 for a command line without `-n`. Its build succeeded, and its runs were shown in this way. Or
+-- one of its targets isn't a target of the manifest, and the words name other paths.
 abbrev pub SaysBuilt : Shown → Rule → List Argument → (default : ℕ) → (status : ℕ) → Type 0
 SaysBuilt shown rule line default status =
     status ≡ 0 → is_dry_run line ≡ false → EndedWell shown rule (asked_by line default) ⊎ HasUnknownTarget shown rule (asked_by line default)

@@ -1,9 +1,10 @@
-//! What other threads do while a build compiles its manifest: they read the record, and ask for stamps.
+//! Other threads read the record and ask for stamps while a build compiles its manifest.
 
 ghost use Rattle.std.specs.Thread.{IsSend, IsSync};
 
 use crate::building::Builder;
 use crate::refusal::refuse_record;
+use crate::watched_screen::WriteWatcher;
 use crate::words::manifest_in;
 use plan_lanes::World;
 use plan_options::CommandLine;
@@ -18,19 +19,19 @@ use std::sync::Wait;
 use std::sync::atomic::{AtomicBool, Ordering};
 use std::thread::{self, Threads};
 
-/// A world with a record that is read when it is first needed. Threads read it through this trait: a bound of one's own
-/// can be passed to threads, unlike the bound `Files` of a runtime.
+/// A world with a record that is read when it is first needed. Threads read it through this trait, since the kit lets
+/// threads use a trait of this crate as a bound, but not the bound `Files` of a runtime.
 pub trait RecordedWorld {
     /// Reads the record, unless that was done before.
     ///
     /// # Errors
-    /// Why the record can't be used. The reason is reported on standard error.
+    /// The record can't be used. The reason is also reported on standard error.
     fn read_ahead(&self) -> Result<(), OpenFault>;
 
-    /// Returns the outputs that the record has entries of. It reads the record first if that wasn't done.
+    /// Returns the outputs that the record has entries of. Reads the record first if that wasn't done yet.
     ///
     /// # Errors
-    /// As `read_ahead`.
+    /// As for `read_ahead`.
     fn outputs(&self) -> Result<RowList<u8>, OpenFault>;
 }
 
@@ -47,11 +48,11 @@ where
     }
 }
 
-/// Reads the record. Then this many threads ask for the stamps of its outputs and of the paths that each was made from,
-/// until all were asked for, a command begins, or the build is over.
+/// Reads the record. Then this many threads ask for the stamps of its outputs and of their recorded dependencies, until
+/// they have asked for all, a command begins, or the build is over.
 ///
 /// # Errors
-/// Why the record can't be used.
+/// The record can't be used.
 fn look_ahead<R: Threads + Wait + Sync, W: World + RecordedWorld + Send + Sync>(
     world: &StampCache<'_, R, W>,
     threads: usize,
@@ -69,10 +70,10 @@ impl<
     R: Threads + Wait + Sync + Files + Print + Eprint + AllocGlobal,
     E: Print,
     W: World + RecordedWorld + Send + Sync,
-    H: Outputs + Stopwatch + Sync,
+    H: Outputs + Stopwatch + WriteWatcher + Sync,
 > Builder<'_, R, E, StampCache<'_, R, W>, H> {
-    /// Builds as `build_line` does. Meanwhile another thread reads the record, and this many threads ask for stamps. If
-    /// the record can't be used, that is reported when the build has ended. Returns the exit status.
+    /// Builds like `build_line`. Meanwhile another thread reads the record, and this many threads ask for stamps. If
+    /// the record can't be used, reports that when the build has ended. Returns the exit status.
     pub fn build_looking_ahead(&self, line: &CommandLine, jobs: u8, threads: usize) -> u8 {
         let is_over = AtomicBool::new(false);
         let (world, is_over) = (self.world, &is_over);

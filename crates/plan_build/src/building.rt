@@ -8,24 +8,25 @@ ghost use Rattle.plan_progress.specs.BuildLines.{look_of};
 ghost use Rattle.plan_build.specs.Statuses as statuses;
 ghost use Rattle.plan_build.specs.Statuses.{Ended, HasUnknownTarget, SaysBuilt, as_build, display_in};
 
-use crate::ending::{end_build, no_work};
+use crate::ending::{end_build, may_run_others, no_work, note_restat};
 use crate::refusal::{UNKNOWN_TARGET, refuse};
 use crate::tool::{Named, named_in, refuse_tool};
-use crate::words::{manifest_in, style_in};
+use crate::watched_screen::{WatchedScreen, WriteWatcher};
+use crate::words::{is_quiet, manifest_in, style_in};
 use plan_commands::{
-    Done, FileSource, MANIFEST_BYTES, Order, PlanFault, Printer, Screen, do_build, do_dry_build,
+    Done, FileSource, Listed, MANIFEST_BYTES, Order, PlanFault, Printer, do_build, do_dry_build,
     no_memory,
 };
-use plan_lanes::World;
+use plan_lanes::{Observing, World};
 use plan_machine::Options;
 use plan_options::CommandLine;
-use plan_progress::{BuildLines, Display, Outputs, Stopwatch};
+use plan_progress::{BuildLines, Counts, Display, Outputs, Stopwatch};
 use std::rt::Files;
 use std::sync::{Mutex, Wait};
 use std::thread::{Parker, Threads};
 
-/// What shows the runs of a build.
-type BuildPrinter<'a, R, H> = Printer<BuildLines<'a, H>, Screen<'a, R>>;
+/// The printer of the runs of a build.
+type BuildPrinter<'a, R, H> = Printer<BuildLines<'a, H>, WatchedScreen<'a, R, H>>;
 
 /// The environment of a build.
 #[derive(Drop)]
@@ -36,10 +37,12 @@ pub struct Builder<'a, R, E, W, H> {
     pub errors: &'a E,
     /// The world that replies to the build's questions.
     pub world: &'a W,
-    /// What commands printed and what isn't shown yet, and the time.
+    /// The outputs of commands that aren't shown yet, and the time.
     pub outputs: &'a H,
     /// Whether standard output is a terminal on which lines are written over.
     pub on_terminal: bool,
+    /// Whether escape sequences are wanted, so that `FAILED:` is red.
+    pub colours: bool,
     /// The template of the text before a label.
     pub template: &'a [u8],
     /// The lock of standard output.
@@ -56,6 +59,7 @@ impl<'a, R, E, W, H> Builder<'a, R, E, W, H> {
         world: &'a W,
         outputs: &'a H,
         on_terminal: bool,
+        colours: bool,
         template: &'a [u8],
         screen: &'a Mutex<()>,
         parker: &'a Parker,
@@ -66,9 +70,33 @@ impl<'a, R, E, W, H> Builder<'a, R, E, W, H> {
             world,
             outputs,
             on_terminal,
+            colours,
             template,
             screen,
             parker,
+        }
+    }
+}
+
+impl<'a, R, E, W, H> Builder<'a, R, E, W, H> {
+    /// Returns the same environment with another world.
+    fn in_world<'b, V>(&'b self, world: &'b V) -> Builder<'b, R, E, V, H>
+        ensures world { result.world.now ≡ world.now }
+        ensures on_terminal { result.on_terminal ≡ self.now.on_terminal }
+        ensures colours { result.colours ≡ self.now.colours }
+        ensures template { result.template.now ≡ self.now.template.now }
+    {
+        let here = self;
+        Builder {
+            rt: here.rt,
+            errors: here.errors,
+            world,
+            outputs: here.outputs,
+            on_terminal: here.on_terminal,
+            colours: here.colours,
+            template: here.template,
+            screen: here.screen,
+            parker: here.parker,
         }
     }
 }
@@ -77,24 +105,25 @@ impl<
     R: Threads + Wait + Sync + Files + Print + Eprint + AllocGlobal,
     E: Print,
     W: World + Send + Sync,
-    H: Outputs + Stopwatch + Sync,
+    H: Outputs + Stopwatch + WriteWatcher + Sync,
 > Builder<'_, R, E, W, H> {
-    /// Returns what shows the runs of a build.
+    /// Returns the printer of the runs of a build.
     fn printer(&self, line: &CommandLine) -> BuildPrinter<'_, R, H>
-        ensures { look_of result.format.display ≡ display_in line.now self.now.on_terminal self.now.template.now }
+        ensures { look_of result.format.display ≡ display_in line.now self.now.on_terminal self.now.colours self.now.template.now }
     {
         let display = Display {
             style: style_in(line),
             on_terminal: self.on_terminal,
+            colours: self.colours,
             template: self.template,
         };
         Printer {
-            format: BuildLines::new(self.outputs, display),
-            out: Screen::new(self.rt, self.screen),
+            format: BuildLines::new(self.rt.alloc(), self.outputs, display),
+            out: WatchedScreen::new(self.rt, self.screen, self.outputs),
         }
     }
 
-    /// Builds targets. Returns how many edges failed, too.
+    /// Builds targets. Also returns how many edges failed.
     fn run(
         &self,
         line: &CommandLine,
@@ -102,9 +131,9 @@ impl<
         targets: &[&[u8]],
     ) -> (Result<Done, PlanFault>, u64)
         ensures done { let a = asked (statuses.manifest_in line.now) options (map (λ n. n.now) targets.now) in
-            IfOk result.0 (λ done. Ended (as_build H H.taken H.showed (display_in line.now self.now.on_terminal self.now.template.now)) W.allows a done) }
+            IfOk result.0 (λ done. Ended (as_build H H.taken H.showed (display_in line.now self.now.on_terminal self.now.colours self.now.template.now)) W.allows a done) }
         ensures unknown { let a = asked (statuses.manifest_in line.now) options (map (λ n. n.now) targets.now) in
-            IfErr result.0 (λ fault. fault.number ≡ 132 → HasUnknownTarget (as_build H H.taken H.showed (display_in line.now self.now.on_terminal self.now.template.now)) W.allows a) }
+            IfErr result.0 (λ fault. fault.number ≡ 132 → HasUnknownTarget (as_build H H.taken H.showed (display_in line.now self.now.on_terminal self.now.colours self.now.template.now)) W.allows a) }
     {
         let (rt, alloc) = (self.rt, self.rt.alloc());
         let order = Order {
@@ -126,7 +155,15 @@ impl<
         (done, printer.format.counts().failed)
     }
 
-    /// Prints the commands that a build would run. Returns how many edges would fail, too.
+    /// Notes on standard error that more commands may run than a dry build listed, unless `--quiet` is given. `counts`
+    /// are the counts of its last run.
+    fn note(&self, line: &CommandLine, listed: Listed, counts: Counts) {
+        if !is_quiet(line) && may_run_others(listed, counts) {
+            note_restat(self.rt.alloc(), self.errors, listed.restat);
+        }
+    }
+
+    /// Prints the commands that a build would run, and notes if there may be more. Also returns how many edges would fail.
     fn preview(
         &self,
         line: &CommandLine,
@@ -141,7 +178,7 @@ impl<
         };
         let mut manifests = FileSource::new(rt, MANIFEST_BYTES);
         let printer = self.printer(line);
-        let (done, printer) = do_dry_build(
+        let (done, printer, listed) = do_dry_build(
             rt,
             alloc,
             &mut manifests,
@@ -150,10 +187,14 @@ impl<
             self.parker,
             printer,
         );
-        (done, printer.format.counts().failed)
+        let counts = printer.format.counts();
+        if done.is_ok() {
+            self.note(line, listed, counts);
+        }
+        (done, counts.failed)
     }
 
-    /// Builds targets, or with `-n` prints the commands that would run. Returns how many edges failed, too.
+    /// Builds targets, or with `-n` prints the commands that would run. Also returns how many edges failed.
     fn build(
         &self,
         line: &CommandLine,
@@ -161,9 +202,9 @@ impl<
         targets: &[&[u8]],
     ) -> (Result<Done, PlanFault>, u64)
         ensures done { let a = asked (statuses.manifest_in line.now) options (map (λ n. n.now) targets.now) in
-            is_dry_run line.now ≡ false → IfOk result.0 (λ done. Ended (as_build H H.taken H.showed (display_in line.now self.now.on_terminal self.now.template.now)) W.allows a done) }
+            is_dry_run line.now ≡ false → IfOk result.0 (λ done. Ended (as_build H H.taken H.showed (display_in line.now self.now.on_terminal self.now.colours self.now.template.now)) W.allows a done) }
         ensures unknown { let a = asked (statuses.manifest_in line.now) options (map (λ n. n.now) targets.now) in
-            is_dry_run line.now ≡ false → IfErr result.0 (λ fault. fault.number ≡ 132 → HasUnknownTarget (as_build H H.taken H.showed (display_in line.now self.now.on_terminal self.now.template.now)) W.allows a) }
+            is_dry_run line.now ≡ false → IfErr result.0 (λ fault. fault.number ≡ 132 → HasUnknownTarget (as_build H H.taken H.showed (display_in line.now self.now.on_terminal self.now.colours self.now.template.now)) W.allows a) }
     {
         if line.is_dry_run() {
             self.preview(line, options, targets)
@@ -172,7 +213,7 @@ impl<
         }
     }
 
-    /// Prints how a build ended in which so many edges failed, and returns the exit status.
+    /// Prints how a build ended in which `failed` edges failed, and returns the exit status.
     fn end(&self, line: &CommandLine, done: Result<Done, PlanFault>, failed: u64) -> u8
         ensures { result ≡ 0 → (d : Done) × (done ≡ Ok d) × (exit_status d ≡ 0) }
     {
@@ -202,10 +243,39 @@ impl<
         }
     }
 
+    /// Builds like `build_line`, and shows before each command why it runs. To do so, observes edges.
+    /// Returns the exit status.
+    pub fn build_explained(&self, line: &CommandLine, jobs: u8) -> u8
+        ensures { SaysBuilt (as_build H H.taken H.showed (display_in line.now self.now.on_terminal self.now.colours self.now.template.now)) W.allows line.now jobs result }
+    {
+        let observing = Observing::new(self.world);
+        self.in_world(&observing).build_line(line, jobs)
+    }
+
+    /// Prints which commands would run for the targets that are the words of a tool, but runs none. If there are no
+    /// words, the targets are the defaults. Returns the exit status.
+    fn preview_words(&self, line: &CommandLine, jobs: u8) -> u8 {
+        let alloc = self.rt.alloc();
+        let (Some(options), Ok(targets)) = (
+            Options::new(line.jobs().unwrap_or(jobs), line.failures()),
+            line.tool_words(alloc),
+        ) else {
+            return self.end(line, Err(no_memory(alloc)), 0);
+        };
+        let (done, failed) = self.preview(line, options, &targets);
+        self.end(line, done, failed)
+    }
+
+    /// Prints which commands would run for the words of a tool, like `preview_words`, and why. Returns the exit status.
+    pub fn explain(&self, line: &CommandLine, jobs: u8) -> u8 {
+        let observing = Observing::new(self.world);
+        self.in_world(&observing).preview_words(line, jobs)
+    }
+
     /// Builds the targets of a command line. At most `jobs` commands run at once if `-j` isn't given. Returns the exit
     /// status.
     pub fn build_line(&self, line: &CommandLine, jobs: u8) -> u8
-        ensures { SaysBuilt (as_build H H.taken H.showed (display_in line.now self.now.on_terminal self.now.template.now)) W.allows line.now jobs result }
+        ensures { SaysBuilt (as_build H H.taken H.showed (display_in line.now self.now.on_terminal self.now.colours self.now.template.now)) W.allows line.now jobs result }
     {
         let alloc = self.rt.alloc();
         let (Some(options), Ok(targets)) = (

@@ -3,15 +3,16 @@
 ghost use Rattle.std.specs.Prelude.{◌≡◌};
 ghost use Rattle.plan_commands.specs.Building.{exit_status};
 
-use crate::said::{complain_of, say, status_after};
-use plan_commands::Done;
-use std::alloc::Global;
+use crate::said::{complain, complain_of, digits_in, say, status_after};
+use plan_commands::{Done, Listed};
+use plan_progress::Counts;
+use std::alloc::{AllocError, Global};
 
 /// ninja's words for a manifest that is still dirty after 100 tries.
 const TRIES: &[u8] = b"100 tries, perhaps system time is not set";
 
-/// Returns ninja's reason for a build in which `failed` edges failed. `allowed` is the value of `-k`: as many failures
-/// stop the build, and 0 allows any number.
+/// Returns ninja's reason for a build in which `failed` edges failed. `allowed` is the value of `-k`: the number of
+/// failures that stops the build, or 0 if any number is allowed.
 fn failure_text(allowed: u32, failed: u64) -> &'static [u8] {
     if allowed == 0 || failed < u64::from(allowed) {
         return b"cannot make progress due to previous errors";
@@ -53,14 +54,36 @@ fn refuse_manifest<E: Print>(
     }
 }
 
+/// Checks whether commands may run that a dry build didn't list: it listed one with `restat`, and found an edge of the
+/// last run up to date, or listed commands before that run. `counts` are the counts of the last run.
+pub fn may_run_others(listed: Listed, counts: Counts) -> bool {
+    listed.restat > 0 && (counts.clean > 0 || listed.commands > counts.finished)
+}
+
+/// Returns the note on listed commands with `restat`, after their number.
+fn restat_note(restat: u64) -> &'static [u8] {
+    if restat == 1 {
+        return b" of these commands has restat: if it changes its outputs, more commands may run\n";
+    }
+    b" of these commands have restat: if they change their outputs, more commands may run\n"
+}
+
+/// Reports on standard error that commands may run that aren't listed, because this many of the listed ones have
+/// `restat`.
+pub fn note_restat<E: Print>(alloc: Global, errors: &E, restat: u64) {
+    let digits: Result<String, AllocError> = restat.to_string(alloc);
+    let note = restat_note(restat);
+    complain(alloc, errors, &[b"ninja: note: ", digits_in(&digits), note]);
+}
+
 /// Prints that there is nothing to do, and returns the exit status: 0, or 1 if the line can't be written.
 pub fn no_work<R: Print + AllocGlobal, E: Print>(rt: &R, errors: &E) -> u8 {
     status_after(say(rt, errors, &[b"ninja: no work to do.\n"]), 0)
 }
 
-/// Prints how the build of a manifest ended, in ninja's words. `allowed` is the value of `-k`, and `failed` the number of
-/// edges that failed. Returns the exit status of the build, or 1 if `no work to do` can't be written. That failure is
-/// reported on standard error.
+/// Prints how the build of a manifest ended, in ninja's words. `allowed` is the value of `-k`, and `failed` the number
+/// of edges that failed. Returns the exit status of the build, or 1 if `no work to do` can't be written. That failure
+/// is reported on standard error.
 pub fn end_build<R: Print + AllocGlobal, E: Print>(
     rt: &R,
     errors: &E,

@@ -14,20 +14,21 @@ mod shells;
 mod stopping;
 mod template;
 mod tool;
+mod watched_screen;
 mod words;
 
 use crate::building::Builder;
 use crate::held_outputs::HeldOutputs;
 use crate::refusal::{refuse, refuse_loading, refuse_record};
 use crate::said::{REFUSED, complain, complain_of, say};
-use crate::shells::{BuildShells, is_smart_terminal, wants_escapes};
+use crate::shells::{BuildShells, is_smart_terminal, shares_terminal, wants_escapes};
 use crate::stopping::{stop_at, warn};
 use crate::template::read_template;
-use crate::tool::{request_in, run_tool, tool_named, unknown_tool};
-use crate::words::{MANIFEST, RECORD, after_name, manifest_in, name_in, words_in};
+use crate::tool::{Tool, request_in, run_tool, tool_named, unknown_tool};
+use crate::words::{MANIFEST, RECORD, after_name, is_quiet, manifest_in, name_in, words_in};
 use plan_commands::{no_memory, open_streams};
 use plan_lanes::World;
-use plan_options::{CommandLine, Flag, Setting};
+use plan_options::{CommandLine, Setting};
 use plan_stamps::StampCache;
 use plan_world::RealWorld;
 use std::alloc::{AllocError, Global};
@@ -82,7 +83,7 @@ fn enter<R: Env + Print + Eprint + AllocGlobal, E: Print>(
     let Some(folder) = line.value(Setting::Folder) else {
         return Ok(());
     };
-    let is_silent = line.value(Setting::Tool).is_some() || line.verbosity() == Some(Flag::Quiet);
+    let is_silent = line.value(Setting::Tool).is_some() || is_quiet(line);
     if !is_silent {
         say(
             rt,
@@ -119,7 +120,7 @@ fn missing<R: Files>(rt: &R, manifest: &[u8]) -> Option<ErrorKind> {
 type SystemWorld<'a> = RealWorld<HostRuntime, BuildShells<'a, HostRuntime>>;
 
 /// Opens the world of real files and commands, with the record in the folder of the build. If the manifest is missing,
-/// no record is created. What commands print is held in `outputs`.
+/// no record is created. The outputs of commands are held in `outputs`.
 ///
 /// # Errors
 /// The exit status if the world can't be opened. The reason is reported on standard error.
@@ -139,7 +140,13 @@ fn open_world<'a, E: Print>(
     let (Ok(own), Ok(other)) = (own, other) else {
         return Err(refuse(rt, errors, manifest, &no_memory(alloc)));
     };
-    let shells = BuildShells::new(alloc, other, outputs, wants_escapes(rt));
+    let shells = BuildShells::new(
+        alloc,
+        other,
+        outputs,
+        wants_escapes(rt),
+        shares_terminal(rt),
+    );
     match RealWorld::open(own, shells, RECORD) {
         Ok(world) => Ok(world),
         Err(fault) => Err(refuse_record(rt, errors, manifest, fault)),
@@ -222,6 +229,28 @@ fn use_tool<E: Print>(
     Ok(run_tool(rt, line, &request))
 }
 
+/// Checks whether a command line asks for the tool that says which commands would run, and why.
+fn asks_for_reasons(line: &CommandLine) -> bool {
+    match line.value(Setting::Tool) {
+        Some(name) => name == Tool::Explain.name(),
+        None => false,
+    }
+}
+
+/// Checks the words of the tool that explains, and changes to the folder of the build.
+///
+/// # Errors
+/// The exit status if nothing is to be explained.
+fn check_reasons<E: Print>(rt: &HostRuntime, errors: &E, line: &CommandLine) -> Result<(), u8> {
+    let alloc = rt.alloc();
+    let (Ok(targets), Ok(words)) = (line.targets(alloc), line.tool_words(alloc)) else {
+        return Err(refuse(rt, errors, MANIFEST, &no_memory(alloc)));
+    };
+    check_no_targets(alloc, errors, &targets)?;
+    request_in(rt, errors, Tool::Explain, &words)?;
+    enter(rt, errors, line)
+}
+
 /// Reads the words after the program's name.
 ///
 /// # Errors
@@ -247,7 +276,8 @@ fn read_line<R: Files + Print + Eprint + AllocGlobal, E: Print>(
     Ok(line)
 }
 
-/// Reads the command line. Runs the tool that it names, or else changes to the folder of the build.
+/// Reads the command line. Runs the tool that it names, or else changes to the folder of the build. The tool that
+/// explains is a build that runs no commands.
 ///
 /// # Errors
 /// The exit status if there is nothing to build.
@@ -260,6 +290,10 @@ fn order_in<E: Print>(rt: &HostRuntime, errors: &E, jobs: u8) -> Result<CommandL
         }
     };
     let line = read_line(rt, errors, &words, jobs)?;
+    if asks_for_reasons(&line) {
+        check_reasons(rt, errors, &line)?;
+        return Ok(line);
+    }
     if let Some(name) = line.value(Setting::Tool) {
         return Err(match use_tool(rt, errors, &line, name) {
             Ok(status) | Err(status) => status,
@@ -305,11 +339,16 @@ fn main(rt: HostRuntime) -> ExitCode {
         &world,
         &outputs,
         is_smart_terminal(&rt),
+        wants_escapes(&rt),
         template.as_bytes(),
         world.inner().screen(),
         world.inner().parker(),
     );
-    let status = if is_long {
+    let status = if asks_for_reasons(&line) {
+        builder.explain(&line, jobs)
+    } else if line.is_explained() {
+        builder.build_explained(&line, jobs)
+    } else if is_long {
         let threads = threads_ahead(&rt, &line, line.jobs().unwrap_or(jobs));
         builder.build_looking_ahead(&line, jobs, threads)
     } else {

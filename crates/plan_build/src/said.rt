@@ -27,6 +27,14 @@ pub fn concatenate(alloc: Global, parts: &[&[u8]]) -> Result<Vec<u8>, AllocError
     Ok(text)
 }
 
+/// Returns the digits of a number, or `?` if memory ran out.
+pub fn digits_in(digits: &Result<String, AllocError>) -> &[u8] {
+    match digits {
+        Ok(digits) => digits.as_bytes(),
+        Err(_) => b"?",
+    }
+}
+
 /// Writes texts to standard error in one piece. If memory runs out, reports that instead.
 pub fn complain<E: Print>(alloc: Global, errors: &E, parts: &[&[u8]]) {
     let _ = match concatenate(alloc, parts) {

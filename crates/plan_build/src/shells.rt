@@ -1,45 +1,50 @@
-//! The shells of a build, and what is shown of what their commands print.
+//! The shells of a build, and how the outputs of their commands are shown.
 
 use crate::held_outputs::HeldOutputs;
+use crate::said::concatenate;
 use plan_output::{shown_output, signal_line};
 use plan_world::{Printed, Shells, SystemShells};
 use std::alloc::{AllocError, Global};
-use std::env;
 use std::io::{self, IsTerminal};
 use std::os::unix::process::ExitStatusExt;
 use std::process::{Command, ExitStatus, Processes};
-use std::rt::{Env, Files};
+use std::rt::{Clock, Env, Files};
 use std::sync::Wait;
+use std::{env, str};
 
-/// The system's shells. What commands print is held until their marks are shown. If escape sequences aren't wanted, they
-/// are removed from it.
+/// The system's shells. The output of a command is held until its mark is shown. If escape sequences aren't wanted,
+/// they are removed from the output.
 #[derive(Drop)]
 pub struct BuildShells<'a, R> {
     alloc: Global,
     shells: SystemShells<R>,
     outputs: &'a HeldOutputs<'a, R>,
     escapes: bool,
+    /// Whether standard output and standard error are the same kind of terminal, on which lines are written over.
+    clears: bool,
 }
 
 impl<'a, R> BuildShells<'a, R> {
-    /// Creates the shells of a runtime. What commands print goes into `outputs`. If `escapes` is false, escape sequences
-    /// are removed.
+    /// Creates the shells of a runtime. The outputs of commands go into `outputs`. If `escapes` is false, removes
+    /// escape sequences.
     pub fn new(
         alloc: Global,
         rt: R,
         outputs: &'a HeldOutputs<'a, R>,
         escapes: bool,
+        clears: bool,
     ) -> BuildShells<'a, R> {
         BuildShells {
             alloc,
             shells: SystemShells::new(rt),
             outputs,
             escapes,
+            clears,
         }
     }
 }
 
-/// Adds to the output of a command which signal ended it, if one did.
+/// If a signal ended a command, appends the signal to the output of the command.
 fn add_signal(text: &mut Vec<u8>, status: &ExitStatus) -> Result<(), AllocError> {
     match status.signal() {
         Some(signal) => text.extend_from_slice(signal_line(u8::try_from(signal).unwrap_or(0))),
@@ -47,14 +52,42 @@ fn add_signal(text: &mut Vec<u8>, status: &ExitStatus) -> Result<(), AllocError>
     }
 }
 
-impl<R: Processes + Files + Wait> Shells for BuildShells<'_, R> {
+/// The text that is shown instead of a reason that isn't UTF-8.
+const NOT_SHOWN: &str = "ninja explain: a path that isn't UTF-8\n";
+
+/// Returns the line that explains why the command of an edge runs, with ninja's prefix. On a terminal the line is
+/// written over the status line.
+fn explanation(
+    alloc: Global,
+    clears: bool,
+    edge: &[u8],
+    reason: &[u8],
+) -> Result<Vec<u8>, AllocError> {
+    let begin: &[u8] = if clears { b"\r\x1b[K" } else { b"" };
+    concatenate(
+        alloc,
+        &[begin, b"ninja explain: ", edge, b": ", reason, b"\n"],
+    )
+}
+
+impl<R: Processes + Files + Wait + Clock + Eprint> Shells for BuildShells<'_, R> {
     ghost ended = { λ _ _. Unit {0} };
+
+    fn explain(&self, edge: &[u8], reason: &[u8]) {
+        let Ok(line) = explanation(self.alloc, self.clears, edge, reason) else {
+            return;
+        };
+        let _ = self
+            .shells
+            .runtime()
+            .eprint(str::from_utf8(&line).unwrap_or(NOT_SHOWN));
+    }
 
     fn output(&self, shell: Command, edge: &[u8]) -> io::Result<Printed> {
         let Printed { status, text } = self.shells.output(shell, edge)?;
         let mut text = shown_output(self.alloc, text, self.escapes)?;
         add_signal(&mut text, &status)?;
-        let text = match self.outputs.hold(self.alloc, edge, text) {
+        let text = match self.outputs.hold(edge, text) {
             None => Vec::new(self.alloc),
             // Without memory it is shown now, before its label.
             Some(text) => text,
@@ -62,12 +95,16 @@ impl<R: Processes + Files + Wait> Shells for BuildShells<'_, R> {
         Ok(Printed { status, text })
     }
 
+    fn wait_for_label(&self, edge: &[u8]) {
+        self.outputs.wait_for_label(edge);
+    }
+
     fn status(&self, shell: Command) -> io::Result<ExitStatus> {
         self.shells.status(shell)
     }
 }
 
-/// Checks whether a variable of the environment is set, and to another value than this one.
+/// Checks whether an environment variable is set to a value other than this one.
 fn is_set_otherwise<R: Env + AllocGlobal>(rt: &R, name: &str, value: &str) -> bool {
     match env::var(rt, name) {
         Ok(found) => found.as_str() != value,
@@ -75,10 +112,14 @@ fn is_set_otherwise<R: Env + AllocGlobal>(rt: &R, name: &str, value: &str) -> bo
     }
 }
 
-/// Checks whether standard output is a terminal that understands escape sequences: `TERM` names another one than
-/// `dumb`.
+/// Checks whether standard output is a terminal that understands escape sequences: `TERM` is set, but not to `dumb`.
 pub fn is_smart_terminal(rt: &HostRuntime) -> bool {
     rt.stdout().is_terminal() && is_set_otherwise(rt, "TERM", "dumb")
+}
+
+/// Checks whether standard output is a terminal on which lines are written over, and standard error is a terminal too.
+pub fn shares_terminal(rt: &HostRuntime) -> bool {
+    is_smart_terminal(rt) && rt.stderr().is_terminal()
 }
 
 /// Checks whether escape sequences are wanted, as ninja does: on a terminal that understands them, or if

@@ -1,6 +1,6 @@
 //! Arguments that end the program before it does anything else.
 
-use crate::said::{REFUSED, complain, say, status_after};
+use crate::said::{REFUSED, complain, digits_in, say, status_after};
 use plan_options::{
     Argument, CommandLine, Flag, Misuse, Setting, Stop, flags_named, name_of, stop_of,
 };
@@ -54,14 +54,6 @@ multiple modes can be enabled via -d FOO -d BAR
 const WARNINGS: &[u8] = b"warning flags:
   phonycycle={err,warn}  phony build statement references itself
 ";
-
-/// Returns the digits of a number, or `?` if memory ran out.
-fn digits_in(digits: &Result<String, AllocError>) -> &[u8] {
-    match digits {
-        Ok(digits) => digits.as_bytes(),
-        Err(_) => b"?",
-    }
-}
 
 /// Prints a line on what is wrong, and then the options, to standard error.
 fn print_usage<E: Print>(alloc: Global, errors: &E, line: &[u8], jobs: u8) {
@@ -207,9 +199,22 @@ pub fn stop_at<R: Print + AllocGlobal, E: Print>(
     }
 }
 
+/// Returns the last debugging mode, if it has no effect.
+fn idle_mode(line: &CommandLine) -> Option<&[u8]> {
+    match line.value(Setting::Mode) {
+        Some(mode) => {
+            if mode == b"explain".as_slice() {
+                return None;
+            }
+            Some(mode)
+        }
+        None => None,
+    }
+}
+
 /// Reports on standard error which options have no effect.
 pub fn warn<E: Print>(alloc: Global, errors: &E, line: &CommandLine) {
-    if let Some(mode) = line.value(Setting::Mode) {
+    if let Some(mode) = idle_mode(line) {
         complain(
             alloc,
             errors,

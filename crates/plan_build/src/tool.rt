@@ -39,12 +39,14 @@ pub enum Tool {
     Restat,
     /// Removes outputs that the manifest no longer names.
     CleanDead,
+    /// Says which commands would run, and why.
+    Explain,
     /// Lists the tools.
     List,
 }
 
-/// The tools that `-t list` lists, in ninja's order.
-const TOOLS: [Tool; 7] = [
+/// The tools that `-t list` lists, in ninja's order. ninja doesn't have the last one.
+const TOOLS: [Tool; 8] = [
     Tool::Clean,
     Tool::Commands,
     Tool::Targets,
@@ -52,6 +54,7 @@ const TOOLS: [Tool; 7] = [
     Tool::Recompact,
     Tool::Restat,
     Tool::CleanDead,
+    Tool::Explain,
 ];
 
 impl Tool {
@@ -65,6 +68,7 @@ impl Tool {
             Tool::Recompact => b"recompact",
             Tool::Restat => b"restat",
             Tool::CleanDead => b"cleandead",
+            Tool::Explain => b"explain",
             Tool::List => b"list",
         }
     }
@@ -85,6 +89,7 @@ impl Tool {
             Tool::CleanDead => {
                 b"  cleandead  clean built files that are no longer produced by the manifest\n"
             }
+            Tool::Explain => b"    explain  say which commands would run, and why\n",
             Tool::List => b"       list  list the tools\n",
         }
     }
@@ -105,7 +110,7 @@ pub fn tool_named(name: &[u8]) -> Option<Tool> {
 
 /// Returns the name of the tool that is closest to an unknown name. Empty if no tool is close.
 fn near_name(alloc: Global, name: &[u8]) -> &'static [u8] {
-    let mut names: [&[u8]; 7] = [b""; 7];
+    let mut names: [&[u8]; 8] = [b""; 8];
     for at in 0..TOOLS.len() {
         names[at] = TOOLS[at].name();
     }
@@ -148,7 +153,7 @@ pub fn unknown_tool<E: Print>(alloc: Global, errors: &E, name: &[u8]) -> u8
 
 /// Prints the list of tools, and returns the exit status.
 fn list_tools<R: Print + AllocGlobal, E: Print>(rt: &R, errors: &E) -> u8 {
-    let mut lines: [&[u8]; 8] = [b"ninja subtools:\n"; 8];
+    let mut lines: [&[u8]; 9] = [b"ninja subtools:\n"; 9];
     for at in 0..TOOLS.len() {
         lines[at + 1] = TOOLS[at].line();
     }
@@ -160,7 +165,8 @@ pub fn run_tool(rt: &HostRuntime, line: &CommandLine, request: &Request<'_>) -> 
     let errors = rt.stderr();
     let manifest = manifest_in(line);
     let done = match request.tool {
-        Tool::List => return list_tools(rt, &errors),
+        // `-t explain` is a build (`Builder::explain`).
+        Tool::Explain | Tool::List => return list_tools(rt, &errors),
         Tool::Clean => clean(rt, &errors, line, request),
         Tool::CleanDead => clean_recorded(rt, &errors, line),
         Tool::Recompact => recompact_record(rt, manifest),

@@ -29,6 +29,11 @@ pub fn is_verbose(line: &CommandLine) -> bool {
     line.verbosity() == Some(Flag::Verbose)
 }
 
+/// Checks whether the last option for verbosity is `--quiet`.
+pub fn is_quiet(line: &CommandLine) -> bool {
+    line.verbosity() == Some(Flag::Quiet)
+}
+
 /// Returns how commands are shown: by their labels, or as the last option for verbosity says.
 pub fn style_in(line: &CommandLine) -> Style
     ensures { result ≡ statuses.style_in line.now }

@@ -35,7 +35,12 @@ impl Tool {
             Tool::Clean => b"gr",
             Tool::Commands => b"s",
             Tool::CompilationDatabase => b"x",
-            Tool::Targets | Tool::Recompact | Tool::Restat | Tool::CleanDead | Tool::List => b"",
+            Tool::Targets
+            | Tool::Recompact
+            | Tool::Restat
+            | Tool::CleanDead
+            | Tool::Explain
+            | Tool::List => b"",
         }
     }
 
@@ -49,6 +54,7 @@ impl Tool {
             Tool::Recompact => b"usage: ninja -t recompact\n",
             Tool::Restat => b"usage: ninja -t restat [outputs]\n",
             Tool::CleanDead => b"usage: ninja -t cleandead\n",
+            Tool::Explain => b"usage: ninja -t explain [targets]\n",
             Tool::List => b"usage: ninja -t list\n",
         }
     }
