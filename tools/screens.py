@@ -126,8 +126,6 @@ SCENES: Dict[str, Scene] = {
 class Coloured(Screen):
     """A terminal that also knows colours: the codes of each character, by its row and column."""
 
-    CODES = re.compile(rb"\x1b\[[0-9;]*m|" + Screen.CODES.pattern)
-
     def __init__(self, shown: bytes, width: int) -> None:
         self.codes: frozenset[int] = frozenset()
         self.styles: dict[tuple[int, int], frozenset[int]] = {}
