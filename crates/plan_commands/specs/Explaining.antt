@@ -79,6 +79,6 @@ SaysReason m g e command outputs seen text =
 abbrev pub AreLayouts : Manifest → List EdgeLayout → Type 0
 AreLayouts m ls = IsSound m × (g : Graph) × IsGraph m g × (ls ≡ layouts (builds Stricter m g).edges)
 
--- the same, with the graph by which the image of the manifest is compiled
+-- the same, for a graph of the manifest
 abbrev pub Explains : Manifest → ℕ → (command : List ℕ) → (outputs : List (List ℕ)) → Observed → Option (List ℕ) → Type 0
 Explains m e command outputs seen text = (g : Graph) × IsGraph m g × SaysReason m g e command outputs seen text

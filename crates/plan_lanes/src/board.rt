@@ -79,7 +79,7 @@ impl Permit {
         self.console
     }
 
-    /// Returns what the edge has observed up to here. Returns None if the journal of the run isn't kept.
+    /// Returns what the edge has observed up to here. Returns None if the world doesn't observe edges.
     pub fn observed(&self) -> Option<&Observed>
         ensures { option_map (λ o. o.now) result ≡ self.now.observed }
     {

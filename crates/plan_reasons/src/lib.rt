@@ -4,7 +4,7 @@
 //!   its code loads (`LentSlots`), and by the replies that the edge got before its command.
 //! - These are its steps: `facts_by` returns what the reasons need to know of the edge (`Facts`), `observe` what it
 //!   observed (`Observed`), and `first_reason` the first reason by both.
-//! - `Reason` is a reason. `Left` is what one edge left in the slots that another one may read.
+//! - `Reason` is a reason. `sentence` says it in words (`Names`).
 //! - The laws are about the definitions. There is a reason exactly if the edge is dirty (`reasons_are_causes`), the
 //!   first reason holds (`reasons_hold`), replies are what was observed (`replies_are_observed`), and an edge that asks
 //!   to run its command has a reason (`commands_have_reasons`).
