@@ -101,11 +101,22 @@ impl EdgeReplies {
     }
 
     /// Appends a reply that an edge received. Without memory, no replies are known from here on.
-    pub(crate) fn push(&mut self, alloc: Global, edge: u32, reply: &Reply)
+    fn push_known(&mut self, alloc: Global, edge: u32, reply: &Reply)
         ensures { (events : List Happening) → AreKnown self.old events → AreKnown self.new (events ++ Hear edge reply.now ∷ []) }
     {
         if self.try_push(alloc, edge, reply).is_err() {
             *self = EdgeReplies::Unknown;
+        }
+    }
+
+    /// Appends a reply that an edge received, if replies are known. Without memory, none are known from here on.
+    #[inline(always)]
+    pub(crate) fn push(&mut self, alloc: Global, edge: u32, reply: &Reply)
+        ensures { (events : List Happening) → AreKnown self.old events → AreKnown self.new (events ++ Hear edge reply.now ∷ []) }
+    {
+        match self {
+            EdgeReplies::Unknown => {}
+            EdgeReplies::Known(_) => self.push_known(alloc, edge, reply),
         }
     }
 
