@@ -287,9 +287,9 @@ impl<W: World> Batch<W> {
         self.held.is_empty()
     }
 
-    /// Checks whether the batch holds at least as many questions as it should.
-    pub fn is_full(&self) -> bool {
-        self.count >= FULL
+    /// Checks whether the batch holds at least as many questions as it should, or questions of this many edges.
+    pub fn is_full(&self, edges: usize) -> bool {
+        self.count >= FULL || self.held.len() >= edges
     }
 
     /// Adds a question. Returns false if memory ran out.

@@ -127,7 +127,11 @@ pub(crate) fn run_named<
     ensures there { is_some result.2 ≡ is_some J.feed }
     ensures left { IfSome result.2 (λ s. IsLeft J.feed result.0 s) }
 {
-    let shared: Mutex<SharedRun<'_, W, J>> = Mutex::new(SharedRun::new(board, line_progress));
+    let shared: Mutex<SharedRun<'_, W, J>> = Mutex::new(SharedRun::new(
+        board,
+        line_progress,
+        count,
+    ));
     let moved = Condvar::new();
     let started = start_lanes(rt, alloc, count, &shared, &moved, world);
     let (board, line_progress, stopped) = shared.into_inner().into_parts();
@@ -300,9 +304,10 @@ fn apply_replies<J: RunBrand, W: World, R: Wait>(
     true
 }
 
-/// Advances the run and adds its questions to the batch, until the batch is full, an edge asks to run its command, or
-/// no edge can go on without a reply. No edge takes a job token while the batch has questions: their replies may end
-/// edges, whose marks should be shown before a command makes this lane wait, and let others start.
+/// Advances the run and adds its questions to the batch, until the batch is full or has questions of this lane's share
+/// of the edges, an edge asks to run its command, or no edge can go on without a reply. No edge takes a job token while
+/// the batch has questions: their replies may end edges, whose marks should be shown before a command makes this lane
+/// wait, and let others start.
 fn take<J: RunBrand, W: World, R: Wait>(
     rt: &R,
     shared: &mut SharedRun<'_, W, J>,
@@ -311,7 +316,7 @@ fn take<J: RunBrand, W: World, R: Wait>(
     ensures { Takes shared.old.run shared.new.run batch.old batch.new result }
 {
     for _ in rt.forever() {
-        if batch.is_full() {
+        if batch.is_full(shared.share()) {
             return BatchEnd::Full;
         }
         if !batch.is_empty() && shared.takes_next() {
@@ -325,6 +330,7 @@ fn take<J: RunBrand, W: World, R: Wait>(
                     if !batch.push(BatchItem::open(edge, question)) {
                         return BatchEnd::NoMemory;
                     }
+                    shared.count_taken();
                 }
             },
             Ok(Advance::Wait) => return BatchEnd::Wait,

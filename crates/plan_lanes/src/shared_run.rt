@@ -1,6 +1,6 @@
 //! The state that lanes share under their lock.
 
-ghost use Rattle.std.specs.Prelude.{◌≡◌, ◌≢◌, ◌⊎◌, [], IfErr, IfOk, None, Ok, false, get_or, true};
+ghost use Rattle.std.specs.Prelude.{◌≡◌, ◌≢◌, ◌≤◌, ◌⊎◌, [], IfErr, IfOk, None, Ok, false, get_or, true};
 ghost use Rattle.plan_verify.specs.Turn.{Stat};
 ghost use Rattle.plan_machine.specs.declared.event.Event.TheVariants.{Reply as Hear};
 ghost use Rattle.plan_machine.specs.declared.event.Mark.{Mark};
@@ -52,6 +52,23 @@ pub enum Stopped {
     NoLane,
 }
 
+/// The least share of a lane, in edges.
+const LEAST_SHARE: u64 = 8;
+
+/// The greatest share of a lane, in edges.
+const GREATEST_SHARE: u64 = 64;
+
+/// Returns the share of a lane, which is the number of edges whose questions it may hold at once: a quarter of an equal
+/// part of the edges that no lane has taken yet, within limits. An edge stays with its lane. Without a share, the first
+/// lanes would take all edges of a small build, and then the others would wait for the slowest one.
+fn share_of(untaken: u64, lanes: u8) -> usize
+    ensures least { 8 ≤ result }
+    ensures greatest { result ≤ 64 }
+{
+    let parts = (4 * u64::from(lanes)).max(1);
+    (untaken / parts).max(LEAST_SHARE).min(GREATEST_SHARE) as usize
+}
+
 /// The state that lanes share under the lock: the board of the run that `J` names, the state of showing its marks, why
 /// lanes stop, and how many of them sleep. A contract sees the run so far, and why lanes stop.
 #[derive(Drop)]
@@ -60,6 +77,10 @@ pub struct SharedRun<'v, W: World, J: RunBrand> {
     line_progress: Option<LineProgress>,
     stopped: Stopped,
     waiting: u32,
+    /// The number of lanes.
+    lanes: u8,
+    /// The number of wanted commands, less the number of questions that lanes took with `advance`.
+    untaken: u64,
     name: PhantomData<J>,
 }
 
@@ -74,15 +95,22 @@ impl<'v, W: World, J: RunBrand> Model for SharedRun<'v, W, J> {
 }
 
 impl<'v, W: World, J: RunBrand> SharedRun<'v, W, J> {
-    /// Creates the shared state of lanes from this board. No lane sleeps yet.
-    pub fn new(board: Board<'v, W>, line_progress: Option<LineProgress>) -> SharedRun<'v, W, J>
+    /// Creates the shared state of this many lanes from this board. No lane sleeps yet.
+    pub fn new(
+        board: Board<'v, W>,
+        line_progress: Option<LineProgress>,
+        lanes: u8,
+    ) -> SharedRun<'v, W, J>
         requires { IsSharedRun J.run J.feed board line_progress }
     {
+        let untaken = board.total();
         SharedRun {
             board,
             line_progress,
             stopped: Stopped::No,
             waiting: 0,
+            lanes,
+            untaken,
             name: PhantomData,
         }
     }
@@ -213,6 +241,20 @@ impl<'v, W: World, J: RunBrand> SharedRun<'v, W, J> {
         ensures { result ≡ self.now.stopped }
     {
         self.stopped
+    }
+
+    /// Returns the number of edges whose questions a lane may hold at once.
+    pub fn share(&self) -> usize
+        ensures { 8 ≤ result }
+    {
+        share_of(self.untaken, self.lanes)
+    }
+
+    /// Counts a question that a lane took with `advance`.
+    pub fn count_taken(&mut self)
+        ensures { self.new ≡ self.old }
+    {
+        self.untaken = self.untaken.saturating_sub(1);
     }
 
     /// Increments the number of lanes that sleep.

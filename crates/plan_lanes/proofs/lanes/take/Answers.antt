@@ -4,6 +4,7 @@ use Rattle.plan_lanes.specs.declared.board.Advance.TheVariants as advance
 use Rattle.plan_lanes.specs.declared.board.Permit.{Permit}
 use Rattle.plan_lanes.specs.Batches.{Gathers, Held}
 use Rattle.plan_lanes.specs.Proceeds.{Proceeds}
+use Rattle.plan_lanes.specs.SharedRuns.{Shared}
 use Rattle.plan_lanes.proofs.BatchLemmas.{gathers_moved, gathers_none, takes_held, takes_nothing, takes_run}
 use Rattle.plan_lanes.proofs.lanes.take.Goals as goal
 
@@ -37,7 +38,8 @@ loop-preserved g c =
     subst (λ (x : Advance). Proceeds c.loop.shared.run c.advance.new.shared.run x) c.in-Ok-Job.field-0-is c.in-Ok-Job.ensures.ok in
     let asked = subst (λ (o : Option Permit). Proceeds c.loop.shared.run c.advance.new.shared.run (advance.Job c.in-Ok-Job.edge c.in-Ok-Job.question o)) c.in-None-permit.is job in
     let longer = c.push.ensures c.if-not-push.false ∙ ap (λ (m : Held). c.advance.new.self ++ m ∷ []) c.open.ensures in
-    (tt, tt, takes_held c.args.shared.now.run c.loop.shared.run c.advance.new.shared.run c.args.batch.now c.advance.new.self sofar c.in-Ok-Job.edge c.in-Ok-Job.question asked c.push.new.self longer)
+    let held = takes_held c.args.shared.now.run c.loop.shared.run c.advance.new.shared.run c.args.batch.now c.advance.new.self sofar c.in-Ok-Job.edge c.in-Ok-Job.question asked c.push.new.self longer in
+    (tt, tt, subst (λ (counted : Shared). Gathers c.args.shared.now.run counted.run c.args.batch.now c.push.new.self []) (sym c.count_taken.ensures) held)
 
 pub returns-in-Err : goal.returns-in-Err
 returns-in-Err g c = takes_nothing c.args.shared.now.run c.loop.shared.run c.advance.new.shared.run c.args.batch.now c.loop.batch c.loop.invariant.2 c.advance.ensures.goes
