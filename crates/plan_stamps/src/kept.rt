@@ -79,12 +79,17 @@ impl<W: World> KeptStamp<W> {
 
 /// A hash table of stamps. Entries are only added, so it is read without a lock. An entry is a word and an item of the
 /// list: half of the path's hash, and the item's index. Words are hints only: the item's own path and number are
-/// compared.
+/// compared. Paths that are asked for often, such as those of headers, are found by `recent` words, which take few
+/// pages of memory.
 #[derive(Drop)]
 pub struct StampTable<W: World> {
     words: Vec<AtomicU64>,
     /// One less than the number of rows of words, which is a power of two.
     last_row: usize,
+    /// The words of paths that were found in their rows, each at the place for its hash.
+    recent: Vec<AtomicU64>,
+    /// One less than the number of recent words, which is a power of two.
+    last_recent: usize,
     list: boxcar::Vec<KeptStamp<W>>,
     /// How many commands had begun when a stamp was last offered, and how many stamps were offered since.
     begun: AtomicU64,
@@ -93,6 +98,9 @@ pub struct StampTable<W: World> {
 
 /// The number of words that are tried for a path.
 const WAYS: usize = 8;
+
+/// The greatest number of recent words, a power of two. There are no more of them than rows.
+const RECENT: usize = 16_384;
 
 /// The number of stamps after a command that are not kept. There are few questions between most commands, and a kept
 /// stamp takes memory until the end.
@@ -103,6 +111,15 @@ fn hash_of(path: &[u8]) -> u64 {
     let mut hasher = FoldHasher::default();
     hasher.write(path);
     hasher.finish()
+}
+
+/// Returns this many empty words.
+fn empty_words(alloc: Global, count: usize) -> Result<Vec<AtomicU64>, AllocError> {
+    let mut words = Vec::with_capacity(alloc, count)?;
+    for _ in 0..count {
+        words.push(AtomicU64::new(0))?;
+    }
+    Ok(words)
 }
 
 /// Returns the number of rows for this many stamps, a power of two.
@@ -129,14 +146,14 @@ impl<W: World + Drop> StampTable<W> {
     /// `AllocError` if memory runs out.
     pub fn new(alloc: Global, room: usize) -> Result<StampTable<W>, AllocError> {
         let rows = rows_for(room);
-        let count = rows.saturating_mul(WAYS);
-        let mut words = Vec::with_capacity(alloc, count)?;
-        for _ in 0..count {
-            words.push(AtomicU64::new(0))?;
-        }
+        let words = empty_words(alloc, rows.saturating_mul(WAYS))?;
+        let recents = rows.min(RECENT);
+        let recent = empty_words(alloc, recents)?;
         Ok(StampTable {
             words,
             last_row: rows.wrapping_sub(1),
+            recent,
+            last_recent: recents.wrapping_sub(1),
             list: boxcar::Vec::new(alloc)?,
             begun: AtomicU64::new(0),
             offered: AtomicU64::new(0),
@@ -157,21 +174,61 @@ impl<W: World> StampTable<W> {
             .get(((word & 0xffff_ffff) as usize).wrapping_sub(1))
     }
 
+    /// Returns the place for the recent word of a hash.
+    fn recent_word(&self, hash: u64) -> Option<&AtomicU64> {
+        self.recent.get(hash as usize & self.last_recent)
+    }
+
+    /// Stores the word of a path that was found in its row as a recent one, unless another path has its place.
+    fn remember(&self, hash: u64, word: u64) {
+        if let Some(place) = self.recent_word(hash) {
+            let other = place.load(Ordering::SeqCst);
+            if other == 0 || other >> 32 == word >> 32 {
+                place.store(word, Ordering::SeqCst);
+            }
+        }
+    }
+
+    /// Returns the item of a word, if it is the kept stamp of a path with this hash that was asked for in this moment.
+    #[inline(always)]
+    fn item_for(&self, word: u64, hash: u64, path: &[u8], moment: &Moment) -> Option<&KeptStamp<W>>
+        ensures { IfSome result (λ k. (k.now.path ≡ path.now) × (k.now.begun ≡ moment.now.begun)) }
+    {
+        if word >> 32 != hash >> 32 {
+            return None;
+        }
+        let kept = self.item(word)?;
+        if kept.answers(path, moment) {
+            Some(kept)
+        } else {
+            None
+        }
+    }
+
+    /// Returns the kept stamp of a path that was asked for in this moment, if a word of its row has it.
+    fn find_in_row(&self, hash: u64, path: &[u8], moment: &Moment) -> Option<&KeptStamp<W>>
+        ensures { IfSome result (λ k. (k.now.path ≡ path.now) × (k.now.begun ≡ moment.now.begun)) }
+    {
+        for way in 0..WAYS {
+            let word = self.word(hash, way)?.load(Ordering::SeqCst);
+            if let Some(kept) = self.item_for(word, hash, path, moment) {
+                self.remember(hash, word);
+                return Some(kept);
+            }
+        }
+        None
+    }
+
     /// Returns the kept stamp of a path that was asked for in this moment. Returns None if there is none.
     pub fn find(&self, path: &[u8], moment: &Moment) -> Option<&KeptStamp<W>>
         ensures { IfSome result (λ k. (k.now.path ≡ path.now) × (k.now.begun ≡ moment.now.begun)) }
     {
         let hash = hash_of(path);
-        for way in 0..WAYS {
-            let word = self.word(hash, way)?.load(Ordering::SeqCst);
-            if word >> 32 == hash >> 32 {
-                let kept = self.item(word)?;
-                if kept.answers(path, moment) {
-                    return Some(kept);
-                }
-            }
+        let word = self.recent_word(hash)?.load(Ordering::SeqCst);
+        match self.item_for(word, hash, path, moment) {
+            Some(kept) => Some(kept),
+            None => self.find_in_row(hash, path, moment),
         }
-        None
     }
 
     /// Counts a stamp that is offered, and checks whether to keep it: before the first command, or if many stamps were
