@@ -1,11 +1,15 @@
 -- Paths gone through one by one, and the names in a path. Serves src/askable.rt, src/recorded.rt and src/shell.rt.
-use Rattle.std.proofs.Common.{◌≡◌, ◌+◌, ◌<◌, ◌≤◌, ◌⊎◌, ℕ, Bool, true, false, List, [], ◌∷◌, ◌++◌, length, None, inl, inr, refl, sym, ap, subst, ◌∙◌, arith, cond, slice_get, suc, not, ◌||◌}
-use Rattle.std.specs.Prelude.{◌==◌, get_or}
+use Rattle.std.proofs.Common.{◌≡◌, ◌+◌, ◌<◌, ◌≤◌, ◌⊎◌, ℕ, Bool, true, false, List, [], ◌∷◌, ◌++◌, length, None, inl, inr, refl, sym, ap, subst, ◌∙◌, arith, cond, slice_get, suc, zero, not, ◌||◌}
+use Rattle.std.specs.Prelude.{◌==◌, ◌&&◌, All, get_or, nat_lt}
 use Rattle.std.specs.List.{list_all, list_any, onto_first, position_or_len}
 use Rattle.plan_text.specs.Path.{components_of}
-use Rattle.plan_world.specs.Askable.{is_name}
-use Rattle.std.proofs.lemmas.Bool.{cases_order, le-leb}
+use Rattle.plan_world.specs.Askable.{IsAskable, is_name, is_plain_byte}
+use Rattle.std.proofs.Math.Dec.{eqb-suc-zero}
+use Rattle.std.proofs.lemmas.Bool.{cases_order, le-leb, ltb-true}
 use Rattle.std.proofs.lemmas.List.{append-nil}
+use Rattle.std.proofs.lemmas.List.Elements.{All-cons, All-nil}
+use Rattle.std.proofs.lemmas.Str.{IsUtf8-from_ascii}
+use Rattle.std.proofs.lemmas.Str.Ascii.{IsAscii-from_all}
 
 -- if none is to come, all were pushed
 pub nothing_more : (rows paths all : List (List ℕ)) → None ≡ slice_get paths 0 → rows ++ paths ≡ all → rows ≡ all
@@ -98,3 +102,47 @@ none_if_whole (b ∷ bs) e = by (b == 0) e (none_if_whole bs)
         → (position_or_len (λ b. b == 0) bs ≡ length bs → list_any (λ b. b == 0) bs ≡ false) → (nul || list_any (λ b. b == 0) bs) ≡ false
     by true e rest = absurd (omega (arith, e))
     by false e rest = rest (omega (arith, e))
+
+-- ---- short paths of plain bytes
+
+plain_below : (b : ℕ) → is_plain_byte b ≡ true → b < 128
+plain_below b h = ltb-true b 128 (both b (nat_lt 0 b) (nat_lt b 128) h)
+  where
+    both : ℕ → (s t : Bool) → (s && t) ≡ true → t ≡ true
+    both b true t h = h
+    both b false t h = absurd cc
+
+plain_not_nul : (b : ℕ) → is_plain_byte b ≡ true → (b == 0) ≡ false
+plain_not_nul zero h = absurd cc
+plain_not_nul (suc b) h = eqb-suc-zero b
+
+-- each byte is below 128
+all_below : (path : List ℕ) → list_all is_plain_byte path ≡ true → All (λ b. b < 128) path
+all_below [] h = All-nil (λ b. b < 128)
+all_below (b ∷ bs) h = by (is_plain_byte b) refl h (all_below bs)
+  where
+    by : (plain : Bool) → is_plain_byte b ≡ plain → (plain && list_all is_plain_byte bs) ≡ true
+        → (list_all is_plain_byte bs ≡ true → All (λ b. b < 128) bs) → All (λ b. b < 128) (b ∷ bs)
+    by true e h rest = All-cons (λ b. b < 128) b bs (plain_below b e) (rest h)
+    by false e h rest = absurd cc
+
+-- no byte is NUL
+all_whole : (path : List ℕ) → list_all is_plain_byte path ≡ true → position_or_len (λ b. b == 0) path ≡ length path
+all_whole [] h = refl
+all_whole (b ∷ bs) h = by (is_plain_byte b) refl h (all_whole bs)
+  where
+    by : (plain : Bool) → is_plain_byte b ≡ plain → (plain && list_all is_plain_byte bs) ≡ true
+        → (list_all is_plain_byte bs ≡ true → position_or_len (λ b. b == 0) bs ≡ length bs) → position_or_len (λ b. b == 0) (b ∷ bs) ≡ suc (length bs)
+    by true e h rest =
+        let same = rest h in
+        rw (plain_not_nul b e) (omega (arith, same))
+    by false e h rest = absurd cc
+
+-- The system can be asked about a path of at most 255 plain bytes.
+pub plain_is_askable : (path : List ℕ) → length path ≤ 255 → list_all is_plain_byte path ≡ true → IsAskable path
+plain_is_askable path le h = record {
+  text = IsUtf8-from_ascii path (IsAscii-from_all path (all_below path h));
+  whole = all_whole path h;
+  short = omega (arith, le);
+  names = short_names path le;
+}

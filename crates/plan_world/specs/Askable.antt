@@ -1,5 +1,5 @@
 -- Which paths the system can be asked about.
-use Rattle.std.specs.Prelude.{◌≡◌, ◌<◌, ◌==◌, ◌⊎◌, nat_le, ℕ, Bool, true, List, [], length, get_or, Option, Some, None, IsUtf8}
+use Rattle.std.specs.Prelude.{◌≡◌, ◌<◌, ◌==◌, ◌&&◌, ◌⊎◌, nat_le, nat_lt, ℕ, Bool, true, List, [], length, get_or, Option, Some, None, IsUtf8}
 use Rattle.std.specs.List.{list_all, position_or_len}
 use Rattle.plan_text.specs.Path.{components_of}
 use Rattle.plan_record.specs.Entries.{EntryData}
@@ -10,6 +10,10 @@ use Rattle.plan_machine.specs.declared.event.reply.Reply.TheVariants as reply
 -- a file's name has at most 255 bytes
 abbrev pub is_name : List ℕ → Bool
 is_name name = nat_le (length name) 255
+
+-- an ASCII character other than NUL
+abbrev pub is_plain_byte : ℕ → Bool
+is_plain_byte b = nat_lt 0 b && nat_lt b 128
 
 -- text without a NUL byte, within the system's limits on paths and names
 pub record IsAskable (path : List ℕ) : Type 0 where

@@ -3,7 +3,7 @@
 ghost use Rattle.std.specs.Prelude.{◌≡◌, ◌==◌, ◌↔◌, IsTrue, IsUtf8, length};
 ghost use Rattle.std.specs.List.{list_all, position_or_len};
 ghost use Rattle.plan_text.specs.Path.{components_of};
-ghost use Rattle.plan_world.specs.Askable.{AreAskable, IsAskable, is_name};
+ghost use Rattle.plan_world.specs.Askable.{AreAskable, IsAskable, is_name, is_plain_byte};
 
 use plan_verify::PathList;
 use std::str;
@@ -45,11 +45,35 @@ fn is_whole(path: &[u8]) -> bool
     !path.contains(&0)
 }
 
+/// Checks whether a byte is an ASCII character other than NUL.
+fn is_plain_byte(byte: u8) -> bool
+    ensures { result ≡ is_plain_byte byte }
+{
+    (byte > 0) & (byte < 128)
+}
+
+/// Checks whether each byte of a path is an ASCII character other than NUL. Looks at all of them, so that a processor
+/// can compare many bytes at once.
+fn is_plain(path: &[u8]) -> bool
+    ensures { result ≡ list_all is_plain_byte path.now }
+{
+    let mut plain = true;
+    for byte in path {
+        plain = plain & is_plain_byte(*byte);
+    }
+    plain
+}
+
 /// Checks whether the system can be asked about a path. For any other path the system returns an error, whatever files
-/// exist.
+/// exist. Most paths are short and plain, for which a faster test is enough.
 pub(crate) fn is_askable(path: &[u8]) -> bool
     ensures { IsTrue result ↔ IsAskable path.now }
 {
+    if path.len() <= LONGEST_NAME {
+        if is_plain(path) {
+            return true;
+        }
+    }
     let short = path.len() < PATH_LIMIT;
     is_text(path) & is_whole(path) & short & are_names(path)
 }
