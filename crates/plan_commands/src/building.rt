@@ -20,7 +20,7 @@ ghost use Rattle.plan_commands.specs.Running.{EndsPrinted, report_in};
 ghost use Rattle.plan_commands.specs.Showing.{IsShown, by_format};
 
 use crate::commands::manifest_at;
-use crate::compiling::image_of;
+use crate::compiling::image_by;
 use crate::explaining::{Explained, Explainer};
 use crate::fault::{PlanFault, no_memory};
 use crate::kept::Kept;
@@ -84,19 +84,24 @@ const MOST_ROUNDS: u32 = 100;
 
 /// Compiles a manifest into an image with the stricter out-of-date rule. The image isn't verified again, since the
 /// verifier accepts each image that the compiler makes.
-fn image_to_run(alloc: Global, manifest: &Manifest) -> Result<Verified, PlanFault>
+fn image_to_run<R: Threads + Sync>(
+    rt: &R,
+    alloc: Global,
+    manifest: &Manifest,
+) -> Result<Verified, PlanFault>
     requires { IsSound manifest.now }
     ensures image { IfOk result (λ image. IsImageOf OutOfDateRule.Stricter manifest.now image) }
     ensures refused { IfErr result (λ fault. LacksGraph manifest.now fault ⊎ LacksImageOf OutOfDateRule.Stricter manifest.now fault) }
 {
-    match image_of(alloc, manifest, OutOfDateRule::Stricter) {
+    match image_by(rt, alloc, manifest, OutOfDateRule::Stricter) {
         Ok(image) => Ok(Verified::of_shaped(image)),
         Err(fault) => Err(fault),
     }
 }
 
 /// Reads the manifest at a path, and returns its image. Keeps the parts of the manifest that the build needs.
-fn read_image<S: Source, W: World>(
+fn read_image<S: Source, W: World, R: Threads + Sync>(
+    rt: &R,
     alloc: Global,
     source: &mut S,
     path: &[u8],
@@ -113,7 +118,7 @@ fn read_image<S: Source, W: World>(
         Err(fault) => return Err(fault),
     };
     loaded_manifests_are_sound::<S>();
-    let image = image_to_run(alloc, &manifest);
+    let image = image_to_run(rt, alloc, &manifest);
     kept.keep::<W>(alloc, manifest);
     image
 }
@@ -270,7 +275,7 @@ pub(crate) fn update_manifest<
         (kept : F.Kept) → F.kept printer.format ≡ kept → IfErr result.0 (λ fault. RoundStops (S.gives source.old) missing (by_format F.kept F.tells kept) W.allows a (O.failures printer.out, O.taken printer.out) (O.failures result.1.out, O.taken result.1.out) fault) }
     ensures format { F.kept result.1.format ≡ F.kept printer.format }
 {
-    let image = match read_image::<S, W>(alloc, source, order.manifest, kept) {
+    let image = match read_image::<S, W, R>(rt, alloc, source, order.manifest, kept) {
         Ok(image) => image,
         Err(fault) => return (Err(fault), printer),
     };

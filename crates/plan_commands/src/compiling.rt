@@ -1,8 +1,9 @@
 //! The command `compile`.
 
-ghost use Rattle.std.specs.Prelude.{◌≡◌, ◌⊎◌, IfOk, IfErr, OnOk};
+ghost use Rattle.std.specs.Prelude.{◌≡◌, ◌≤◌, ◌⊎◌, IfOk, IfErr, OnOk, length};
 ghost use Rattle.plan_scope.specs.Sound.{IsSound};
-ghost use Rattle.plan_graph.specs.Graph.{IsGraph};
+ghost use Rattle.plan_graph.specs.Graph.{IsGraph, max_edges};
+ghost use Rattle.plan_compile.specs.Collected.{AreNames};
 ghost use Rattle.plan_compile.specs.declared.baseline.OutOfDateRule.TheVariants as OutOfDateRule;
 ghost use Rattle.plan_image.specs.Spelling.{spelling};
 ghost use Rattle.plan_commands.specs.Commands.{LacksGraph, loading_by};
@@ -13,13 +14,17 @@ use crate::compile_fault::printed_compile_fault;
 use crate::fault::{PlanFault, no_memory, write_fault};
 use crate::graph_fault::printed_graph_fault;
 use crate::image_fault::printed_image_fault;
-use plan_compile::{OutOfDateRule, compile, image_is_shaped, manifests_are_sound};
-use plan_graph::{Graph, graph};
+use plan_compile::{
+    EdgeNames, OutOfDateRule, collect_names, compile, compile_with, image_is_shaped,
+    manifests_are_sound,
+};
+use plan_graph::{Graph, MAX_EDGES, graph};
 use plan_image::{Image, ImageFault, print_image};
 use plan_scope::{Manifest, Source, loaded_manifests_are_sound};
 use plan_text::Sink;
-use std::alloc::Global;
+use std::alloc::{AllocError, Global};
 use std::mem::forget;
+use std::thread::{Threads, join};
 
 /// Returns the graph of a manifest.
 pub(crate) fn graph_of<'a>(alloc: Global, manifest: &'a Manifest) -> Result<Graph<'a>, PlanFault>
@@ -48,6 +53,80 @@ pub fn image_of(alloc: Global, manifest: &Manifest, rule: OutOfDateRule) -> Resu
     match compile(alloc, manifest, &graph, rule) {
         Ok(image) => Ok(image),
         Err(fault) => Err(printed_compile_fault(alloc, fault)),
+    }
+}
+
+/// Builds the graph of a manifest, and collects its names meanwhile. If no thread can be started, collects them
+/// before or after.
+fn graph_and_names<'a, R: Threads + Sync>(
+    rt: &R,
+    alloc: Global,
+    manifest: &'a Manifest,
+) -> (
+    Result<Graph<'a>, PlanFault>,
+    Result<EdgeNames<'a>, AllocError>,
+)
+    requires { length manifest.now.edges ≤ max_edges }
+    ensures graph { IfOk result.0 (λ g. IsGraph manifest.now g) }
+    ensures refused { IfErr result.0 (λ fault. LacksGraph manifest.now fault) }
+    ensures names { IfOk result.1 (AreNames manifest.now.edges) }
+{
+    join(
+        rt,
+        || graph_of(alloc, manifest),
+        || collect_names(alloc, manifest),
+    )
+}
+
+/// Compiles like `image_of`, given the graph of the manifest and its names.
+fn image_with<'a>(
+    alloc: Global,
+    manifest: &'a Manifest,
+    graph: Graph<'a>,
+    names: Result<EdgeNames<'a>, AllocError>,
+    rule: OutOfDateRule,
+) -> Result<Image, PlanFault>
+    requires sound { IsSound manifest.now }
+    requires graph { IsGraph manifest.now graph }
+    requires names { IfOk names (AreNames manifest.now.edges) }
+    ensures spelled { IfOk result (λ image. SpellsImage rule manifest.now (spelling image)) }
+    ensures image { IfOk result (λ image. IsImageOf rule manifest.now image) }
+    ensures refused { IfErr result (λ fault. LacksGraph manifest.now fault ⊎ LacksImageOf rule manifest.now fault) }
+{
+    manifests_are_sound();
+    image_is_shaped();
+    match compile_with(alloc, manifest, &graph, names, rule) {
+        Ok(image) => Ok(image),
+        Err(cause) => Err(printed_compile_fault(alloc, cause)),
+    }
+}
+
+/// The number of edges from which on a second thread saves more time than its start takes.
+const FEW_EDGES: usize = 500;
+
+/// Compiles like `image_of`, but builds the graph of the manifest and collects its names side by side, unless the
+/// manifest has few edges.
+pub fn image_by<R: Threads + Sync>(
+    rt: &R,
+    alloc: Global,
+    manifest: &Manifest,
+    rule: OutOfDateRule,
+) -> Result<Image, PlanFault>
+    requires { IsSound manifest.now }
+    ensures spelled { IfOk result (λ image. SpellsImage rule manifest.now (spelling image)) }
+    ensures image { IfOk result (λ image. IsImageOf rule manifest.now image) }
+    ensures refused { IfErr result (λ fault. LacksGraph manifest.now fault ⊎ LacksImageOf rule manifest.now fault) }
+{
+    if manifest.edges.len() < FEW_EDGES {
+        return image_of(alloc, manifest, rule);
+    }
+    if manifest.edges.len() > MAX_EDGES {
+        return image_of(alloc, manifest, rule);
+    }
+    let (graph, names) = graph_and_names(rt, alloc, manifest);
+    match graph {
+        Ok(graph) => image_with(alloc, manifest, graph, names, rule),
+        Err(fault) => Err(fault),
     }
 }
 

@@ -189,7 +189,7 @@ module _ (t : Builds) (sound : IsSound t) where
     command_is : (form : SlotPattern) (newest : ℕ) → form_of x ≡ form → x.edge.phony ≡ false → newest ≡ newest_by form b
         → command_in numbers table newest x ≡ command_layout (all_texts t.edges) outs form b x
     command_is form newest is plain slot =
-        let same : numbers ≡ command_numbers (all_texts t.edges) (used_pools t.edges) x.edge = ap (λ (p : Bool). numbers_by p (all_texts t.edges) (used_pools t.edges) x) plain in
+        let same : numbers ≡ command_numbers (all_texts t.edges) (used_pools t.edges) x.edge = ap (λ (p : Bool). numbers_by p (all_texts t.edges) (used_pools t.edges) x.edge) plain in
         let command : numbers.command ≡ text_number (all_texts t.edges) x.edge.command = ap (λ (k : Numbers). k.command) same in
         let depfile : numbers.depfile ≡ depfile_number (all_texts t.edges) x.edge.depfile = ap (λ (k : Numbers). k.depfile) same in
         let named = named_is in
@@ -295,13 +295,13 @@ edge_is texts pools code x = by_sort x.edge.phony refl
   where
     by_sort : (b : Bool) → x.edge.phony ≡ b → edge_in (numbers_in texts pools x) code x ≡ edge_by texts pools code x
     by_sort true is =
-        let same : numbers_in texts pools x ≡ numbers_by true texts pools x = ap (λ (p : Bool). numbers_by p texts pools x) is in
-        let label : (numbers_in texts pools x).label ≡ text_number texts (label_of x) = ap (λ (k : Numbers). k.label) same ∙ ap (λ (p : Bool). text_number texts (label_by p x)) (sym is) in
+        let same : numbers_in texts pools x ≡ numbers_by true texts pools x.edge = ap (λ (p : Bool). numbers_by p texts pools x.edge) is in
+        let label : (numbers_in texts pools x).label ≡ text_number texts (label_of x) = ap (λ (k : Numbers). k.label) same ∙ ap (λ (p : Bool). text_number texts (label_by p x.edge)) (sym is) in
         let pool : (numbers_in texts pools x).pool ≡ pool_number pools (pool_in x) = ap (λ (k : Numbers). k.pool) same ∙ ap (λ (p : Bool). pool_number pools (pool_by p x.edge.pool)) (sym is) in
         cc
     by_sort false is =
-        let same : numbers_in texts pools x ≡ numbers_by false texts pools x = ap (λ (p : Bool). numbers_by p texts pools x) is in
-        let label : (numbers_in texts pools x).label ≡ text_number texts (label_of x) = ap (λ (k : Numbers). k.label) same ∙ ap (λ (p : Bool). text_number texts (label_by p x)) (sym is) in
+        let same : numbers_in texts pools x ≡ numbers_by false texts pools x.edge = ap (λ (p : Bool). numbers_by p texts pools x.edge) is in
+        let label : (numbers_in texts pools x).label ≡ text_number texts (label_of x) = ap (λ (k : Numbers). k.label) same ∙ ap (λ (p : Bool). text_number texts (label_by p x.edge)) (sym is) in
         let pool : (numbers_in texts pools x).pool ≡ pool_number pools (pool_in x) =
         ap (λ (k : Numbers). k.pool) same ∙ pool_is pools x.edge.pool ∙ ap (λ (p : Bool). pool_number pools (pool_by p x.edge.pool)) (sym is) in
         cc

@@ -199,12 +199,12 @@ number_inside us t at = lt-leb (length us) (text_number us t) (slice_get_within 
 
 pub command_found : (t : Builds) (e : ℕ) (x : Build) → IsEdge t e x → x.edge.phony ≡ false → slice_get (all_texts t.edges) (text_number (all_texts t.edges) x.edge.command) ≡ Some x.edge.command
 command_found t e x at command =
-    text_found t.edges e x at 1 x.edge.command (subst (λ (b : Bool). slice_get (texts_by b x) 0 ≡ Some x.edge.command) (sym command) refl)
+    text_found t.edges e x at 1 x.edge.command (subst (λ (b : Bool). slice_get (texts_by b x.edge) 0 ≡ Some x.edge.command) (sym command) refl)
 
 pub depfile_found : (t : Builds) (e : ℕ) (x : Build) → IsEdge t e x → x.edge.phony ≡ false → (k : ℕ) (d : Text) → slice_get (unless_empty x.edge.depfile) k ≡ Some d
     → slice_get (all_texts t.edges) (text_number (all_texts t.edges) d) ≡ Some d
 depfile_found t e x at command k d h =
-    text_found t.edges e x at (suc (suc k)) d (subst (λ (b : Bool). slice_get (texts_by b x) (suc k) ≡ Some d) (sym command) h)
+    text_found t.edges e x at (suc (suc k)) d (subst (λ (b : Bool). slice_get (texts_by b x.edge) (suc k) ≡ Some d) (sym command) h)
 
 unblank : (c : Text) → is_blank c ≡ false → c ≡ [] → ⊥
 unblank [] h none = absurd cc

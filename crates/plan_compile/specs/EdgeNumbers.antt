@@ -15,9 +15,12 @@ command_numbers texts pools e = record {
 }
 
 -- a phony only has a label, which is empty
-abbrev pub numbers_by : (phony : Bool) → (texts pools : List Text) → Build → Numbers
-numbers_by true texts pools x = record { label = text_number texts []; command = zero; depfile = None; pool = None }
-numbers_by false texts pools x = command_numbers texts pools x.edge
+abbrev pub numbers_by : (phony : Bool) → (texts pools : List Text) → ManifestEdge → Numbers
+numbers_by true texts pools e = record { label = text_number texts []; command = zero; depfile = None; pool = None }
+numbers_by false texts pools e = command_numbers texts pools e
+
+abbrev pub edge_numbers : (texts pools : List Text) → ManifestEdge → Numbers
+edge_numbers texts pools e = numbers_by e.phony texts pools e
 
 abbrev pub numbers_in : (texts pools : List Text) → Build → Numbers
-numbers_in texts pools x = numbers_by x.edge.phony texts pools x
+numbers_in texts pools x = edge_numbers texts pools x.edge

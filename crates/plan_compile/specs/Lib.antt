@@ -11,6 +11,7 @@ pub mod Numbering
 pub mod BodyKeys
 pub mod Names
 pub mod EdgeNumbers
+pub mod Collected
 pub mod Images
 pub mod Faithful
 pub mod OutputTable

@@ -13,6 +13,7 @@ ghost use Rattle.plan_compile.specs.declared.fault.CompileFault.TheVariants as f
 
 use crate::baseline::OutOfDateRule;
 use crate::build::Build;
+use crate::collecting::collect_names;
 use crate::compiling::{Named, name_all};
 use crate::edge_layout::layout_of;
 use crate::edges::numbers_at;
@@ -85,6 +86,7 @@ pub fn layouts<'a>(
     ensures refused { IfErr result (λ f. f ≡ fault.Limit → MAX_SLOTS < slot_count (builds rule manifest.now graph.now).edges) }
 {
     manifests_are_sound();
-    let named = name_all(alloc, manifest, graph, rule)?;
+    let names = collect_names(alloc, manifest);
+    let named = name_all(alloc, manifest, graph, names, rule)?;
     lay_out(alloc, graph.files.len(), &named)
 }

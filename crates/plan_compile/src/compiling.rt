@@ -7,6 +7,7 @@ ghost use Rattle.plan_graph.specs.Files.{paths_in};
 ghost use Rattle.plan_graph.specs.Graph.{IsGraph, max_edges};
 ghost use Rattle.plan_compile.specs.Assembling.{codes_in, edges_in};
 ghost use Rattle.plan_compile.specs.Builds.{builds_from};
+ghost use Rattle.plan_compile.specs.Collected.{AreNames};
 ghost use Rattle.plan_compile.specs.EdgeNumbers.{numbers_in};
 ghost use Rattle.plan_compile.specs.Images.{compiled, used_bodies};
 ghost use Rattle.plan_compile.specs.Names.{all_texts, declared, used_pools};
@@ -17,10 +18,12 @@ ghost use Rattle.plan_compile.specs.Slots.{all_made, newest_from, slots_from};
 use crate::baseline::OutOfDateRule;
 use crate::bodies::Bodies;
 use crate::build::{Build, builds, words};
+use crate::collecting::collect_names;
+use crate::edge_names::EdgeNames;
 use crate::edges::edges_of;
 use crate::fault::CompileFault;
 use crate::image_laws::{image_is_spelled, manifests_are_sound};
-use crate::names::{Names, Texts, names_of, pool_table};
+use crate::names::pool_table;
 use crate::slots::{plan_slots, slot_count};
 use plan_graph::{Files, Graph};
 use plan_image::{Edges, Image, MAX_FILES, MAX_POOLS, Parts, Pool, Slot};
@@ -57,24 +60,26 @@ fn paths<'a>(alloc: Global, files: &Files<'a>) -> Result<RowList<u8>, AllocError
 #[derive(Drop)]
 pub(crate) struct Named<'a> {
     pub(crate) builds: Vec<Build<'a>>,
-    pub(crate) names: Names<'a>,
+    pub(crate) names: EdgeNames<'a>,
 }
 
-/// Numbers the edges, texts and pools of a manifest.
+/// Numbers the edges of a manifest, given the names that were collected of them.
 pub(crate) fn name_all<'a, 'b>(
     alloc: Global,
     manifest: &'a Manifest,
     graph: &'a Graph<'b>,
+    names: Result<EdgeNames<'a>, AllocError>,
     rule: OutOfDateRule,
 ) -> Result<Named<'a>, AllocError>
-    requires { IsGraph manifest.now graph.now }
+    requires graph { IsGraph manifest.now graph.now }
+    requires names { IfOk names (AreNames manifest.now.edges) }
     ensures builds { IfOk result (λ n. n.builds.items ≡ builds_from rule graph.now 0 manifest.now.edges) }
     ensures texts { IfOk result (λ n. n.names.texts ≡ all_texts n.builds.items) }
     ensures pools { IfOk result (λ n. n.names.pools ≡ used_pools n.builds.items) }
     ensures numbers { IfOk result (λ n. n.names.numbers.items ≡ map (numbers_in (all_texts n.builds.items) (used_pools n.builds.items)) n.builds.items) }
 {
+    let names = names?;
     let builds = builds(alloc, manifest, graph, rule)?;
-    let names = names_of(alloc, &builds)?;
     Ok(Named { builds, names })
 }
 
@@ -125,7 +130,7 @@ fn tables_of<'a, 'b>(
     alloc: Global,
     manifest: &'a Manifest,
     graph: &Graph<'b>,
-    names: &Names<'a>,
+    names: &EdgeNames<'a>,
 ) -> Result<Tables, AllocError>
     requires { All (λ p. p.depth ≤ max_depth) manifest.now.pools }
     ensures texts { IfOk result (λ t. t.texts ≡ names.now.texts) }
@@ -161,14 +166,16 @@ fn assemble(tables: Tables, coded: Coded) -> Parts
 }
 
 /// Returns the tables of the image.
-fn parts<'a>(
+fn parts<'a, 'b>(
     alloc: Global,
-    manifest: &Manifest,
-    graph: &Graph<'a>,
+    manifest: &'a Manifest,
+    graph: &'a Graph<'b>,
+    names: Result<EdgeNames<'a>, AllocError>,
     rule: OutOfDateRule,
 ) -> Result<Parts, CompileFault>
     requires sound { IsSound manifest.now }
     requires graph { IsGraph manifest.now graph.now }
+    requires names { IfOk names (AreNames manifest.now.edges) }
     ensures parts { IfOk result (λ parts. parts ≡ compiled rule manifest.now graph.now) }
     ensures refused { IfErr result (λ fault. IsRefused rule manifest.now graph.now fault) }
 {
@@ -176,13 +183,40 @@ fn parts<'a>(
     if graph.files.len() > MAX_FILES {
         return Err(CompileFault::Limit);
     }
-    let named = name_all(alloc, manifest, graph, rule)?;
+    let named = name_all(alloc, manifest, graph, names, rule)?;
     if named.names.pools.len() > MAX_POOLS {
         return Err(CompileFault::Limit);
     }
     let coded = code_all(alloc, graph.files.len(), &named)?;
     let tables = tables_of(alloc, manifest, graph, &named.names)?;
     Ok(assemble(tables, coded))
+}
+
+/// Compiles like `compile`, given the names that `collect_names` returned for the manifest. If it ran out of memory, so
+/// does this call.
+///
+/// # Errors
+///
+/// As in `compile`.
+pub fn compile_with<'a, 'b>(
+    alloc: Global,
+    manifest: &'a Manifest,
+    graph: &'a Graph<'b>,
+    names: Result<EdgeNames<'a>, AllocError>,
+    rule: OutOfDateRule,
+) -> Result<Image, CompileFault>
+    requires sound { IsSound manifest.now }
+    requires graph { IsGraph manifest.now graph.now }
+    requires names { IfOk names (AreNames manifest.now.edges) }
+    ensures image { IfOk result (λ image. image ≡ compiled rule manifest.now graph.now) }
+    ensures refused { IfErr result (λ fault. IsRefused rule manifest.now graph.now fault) }
+{
+    image_is_spelled();
+    let parts = parts(alloc, manifest, graph, names, rule)?;
+    match Image::new(parts) {
+        Ok(image) => Ok(image),
+        Err(_refused) => Err(CompileFault::Limit),
+    }
 }
 
 /// Compiles a manifest with its graph to an image of version 2, for an out-of-date rule. The edges have the
@@ -192,7 +226,7 @@ fn parts<'a>(
 /// # Errors
 ///
 /// - `Limit` only if the image would exceed a limit of images (docs/rules/image.md).
-/// - `Memory` if memory runs out. Memory is only requested if there are no more files than an image may have.
+/// - `Memory` if memory runs out. Then there are no more files than an image may have.
 pub fn compile<'a>(
     alloc: Global,
     manifest: &Manifest,
@@ -204,10 +238,6 @@ pub fn compile<'a>(
     ensures image { IfOk result (λ image. image ≡ compiled rule manifest.now graph.now) }
     ensures refused { IfErr result (λ fault. IsRefused rule manifest.now graph.now fault) }
 {
-    image_is_spelled();
-    let parts = parts(alloc, manifest, graph, rule)?;
-    match Image::new(parts) {
-        Ok(image) => Ok(image),
-        Err(_refused) => Err(CompileFault::Limit),
-    }
+    let names = collect_names(alloc, manifest);
+    compile_with(alloc, manifest, graph, names, rule)
 }

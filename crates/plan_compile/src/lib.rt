@@ -2,6 +2,8 @@
 //! rule requires.
 //!
 //! - `compile` returns the image of a manifest with its graph, or a `CompileFault`.
+//! - `collect_names` returns the `EdgeNames` of a manifest, which don't depend on its graph, and `compile_with` compiles
+//!   with them. So another thread can build the graph meanwhile.
 //! - `EdgeLayout` is an edge by its numbers in an image's tables. It has one variant for each sort of edge:
 //!   `CommandLayout`, `GatherLayout`, or the outputs of a phony without inputs. `Input` and `Output` are its
 //!   inputs and outputs. `layouts` returns the layouts of the edges of a manifest, and by law
@@ -25,9 +27,11 @@ mod bodies;
 mod body_table;
 mod build;
 mod code;
+mod collecting;
 mod command;
 mod compiling;
 mod edge_layout;
+mod edge_names;
 mod edges;
 mod emitting;
 mod fault;
@@ -48,7 +52,9 @@ mod text_key;
 
 pub use all_layouts::layouts;
 pub use baseline::{Baseline, OutOfDateRule};
-pub use compiling::compile;
+pub use collecting::collect_names;
+pub use compiling::{compile, compile_with};
+pub use edge_names::EdgeNames;
 pub use emitting::edge_code;
 pub use fault::CompileFault;
 pub use image_laws::{

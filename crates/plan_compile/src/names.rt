@@ -2,16 +2,15 @@
 
 ghost use Rattle.std.specs.Prelude.{All, ◌≡◌, ◌≤◌, ◌+◌, ◌++◌, ◌∷◌, [], List, Some, ℕ, bytes_eq, IfOk, length, map, OnOk, option_map, slice_get};
 ghost use Rattle.plan_scope.specs.Edges.{max_depth};
-ghost use Rattle.plan_graph.specs.Graph.{max_edges};
 ghost use Rattle.plan_image.specs.declared.maxima.TheConstants.{MAX_TEXTS};
-ghost use Rattle.plan_compile.specs.EdgeNumbers.{command_numbers, numbers_in};
+ghost use Rattle.plan_compile.specs.EdgeNumbers.{command_numbers, edge_numbers};
 ghost use Rattle.plan_scope.specs.declared.manifest.Pool.{Pool as ManifestPool};
 ghost use Rattle.plan_compile.specs.PoolDepths.{AreDepths};
-ghost use Rattle.plan_compile.specs.Names.{all_texts, declared, depfile_number, depth_of, or_command, pool_in, text_number, texts_in, unless_empty, used_pools};
+ghost use Rattle.plan_compile.specs.Names.{declared, depfile_number, depth_of, edge_pool, edge_texts, or_command, text_number, unless_empty};
 ghost use Rattle.plan_compile.specs.Numbering.{with_item, with_items};
 ghost use Rattle.plan_scope.specs.TextLists.{whole};
 
-use crate::build::{Build, word};
+use crate::build::word;
 use crate::numbers::Numbers;
 use crate::text_key::HeldKey;
 use indexmap::{IndexMap, IndexSet};
@@ -43,7 +42,7 @@ impl<'a> Texts<'a> {
     ghost use Rattle.plan_compile.specs.Numbering.{with_item};
 
     /// Creates an empty list.
-    fn new(alloc: Global) -> Self
+    pub(crate) fn new(alloc: Global) -> Self
         ensures { result ≡ [] }
     {
         Texts {
@@ -52,7 +51,7 @@ impl<'a> Texts<'a> {
     }
 
     /// Reserves room for `texts` further texts.
-    fn reserve(&mut self, texts: usize) -> Result<(), AllocError>
+    pub(crate) fn reserve(&mut self, texts: usize) -> Result<(), AllocError>
         ensures { self.new ≡ self.old }
     {
         self.texts.reserve(texts)
@@ -180,21 +179,20 @@ fn put_command<'a>(
 }
 
 /// Adds the texts and the pool of an edge, and returns their numbers.
-fn put_names<'a>(
+pub(crate) fn put_names<'a>(
     alloc: Global,
     texts: &mut Texts<'a>,
     pools: &mut Texts<'a>,
-    build: &Build<'a>,
+    edge: &EdgeRef<'a>,
 ) -> Result<Numbers, AllocError>
     requires texts { length texts.old ≤ 4194300 }
     requires pools { length pools.old ≤ 4194300 }
-    ensures texts { OnOk result (texts.new ≡ with_items bytes_eq texts.old (texts_in build.now)) }
-    ensures pools { OnOk result (pools.new ≡ with_items bytes_eq pools.old (pool_in build.now)) }
-    ensures numbers { IfOk result (λ n. n ≡ numbers_in texts.new pools.new build.now) }
+    ensures texts { OnOk result (texts.new ≡ with_items bytes_eq texts.old (edge_texts edge.now)) }
+    ensures pools { OnOk result (pools.new ≡ with_items bytes_eq pools.old (edge_pool edge.now)) }
+    ensures numbers { IfOk result (λ n. n ≡ edge_numbers texts.new pools.new edge.now) }
     ensures few { OnOk result (length texts.new ≤ length texts.old + 3) }
     ensures few_pools { OnOk result (length pools.new ≤ length pools.old + 1) }
 {
-    let edge = build.edge();
     if edge.is_phony() {
         let label = texts.put(CowText::of_slice(&[]))?;
         return Ok(Numbers {
@@ -204,36 +202,7 @@ fn put_names<'a>(
             pool: None,
         });
     }
-    put_command(alloc, texts, pools, &edge)
-}
-
-/// The texts of all edges, the names of the pools that edges use, and the numbers of each edge.
-#[derive(Drop)]
-pub(crate) struct Names<'a> {
-    pub(crate) texts: Texts<'a>,
-    pub(crate) pools: Texts<'a>,
-    pub(crate) numbers: Vec<Numbers>,
-}
-
-/// Collects the texts and the pools of all edges.
-pub(crate) fn names_of<'a>(alloc: Global, builds: &[Build<'a>]) -> Result<Names<'a>, AllocError>
-    requires { length builds.now ≤ max_edges }
-    ensures texts { IfOk result (λ names. names.texts ≡ all_texts builds.now) }
-    ensures pools { IfOk result (λ names. names.pools ≡ used_pools builds.now) }
-    ensures numbers { IfOk result (λ names. names.numbers.items ≡ map (numbers_in (all_texts builds.now) (used_pools builds.now)) builds.now) }
-{
-    let mut texts = Texts::new(alloc);
-    texts.reserve(builds.len())?;
-    let mut pools = Texts::new(alloc);
-    let mut numbers = Vec::with_capacity(alloc, builds.len())?;
-    for number in 0..builds.len() {
-        numbers.push(put_names(alloc, &mut texts, &mut pools, &builds[number])?)?;
-    }
-    Ok(Names {
-        texts,
-        pools,
-        numbers,
-    })
+    put_command(alloc, texts, pools, edge)
 }
 
 /// Returns the depths of pools by their names. If a name is declared twice, the first one counts.

@@ -4,8 +4,8 @@ use Rattle.plan_commands.proofs.BuildingLemmas.{read_of}
 use Rattle.plan_commands.proofs.CompilingLemmas.{none_compiled}
 use Rattle.plan_commands.proofs.building.read_image.Goals as goal
 
-pub image_to_run-image-requires : goal.image_to_run-image-requires
-image_to_run-image-requires g c =
+pub image_to_run-image-requires-after_bounds : goal.image_to_run-image-requires-after_bounds
+image_to_run-image-requires-after_bounds g c κs within =
     let meant = c.in-Ok.ensures.meant in
     c.loaded_manifests_are_sound.ensures c.args.source.now (g.S.Source.failures c.args.source.now) (g.S.Source.failures c.manifest_at.new.source) c.args.path.now meant.0 c.in-Ok.manifest meant.1 meant.2
 

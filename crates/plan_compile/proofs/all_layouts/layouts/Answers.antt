@@ -1,5 +1,7 @@
 use Rattle.std.proofs.Common.{refl, ◌≡◌, ◌≤◌, ◌∙◌, List, length, map, None, replicate, ap, sym, subst, zero, arith}
-use Rattle.std.specs.Prelude.{IfOk}
+use Rattle.std.specs.Prelude.{◌<◌, IfErr, IfOk}
+use Rattle.plan_image.specs.declared.maxima.TheConstants.{MAX_SLOTS}
+use Rattle.plan_compile.specs.declared.fault.CompileFault.TheVariants as fault
 use Rattle.plan_compile.specs.declared.layout.EdgeLayout.{EdgeLayout}
 use Rattle.plan_compile.specs.declared.numbers.Numbers.{Numbers}
 use Rattle.plan_compile.specs.Assembling.{layouts_in}
@@ -9,7 +11,7 @@ use Rattle.plan_compile.specs.Faithful.{IsSound}
 use Rattle.plan_compile.specs.Images.{layouts}
 use Rattle.plan_compile.specs.Names.{all_texts, used_pools}
 use Rattle.plan_compile.specs.OutputTable.{Table, filled}
-use Rattle.plan_compile.specs.Slots.{all_made, newest_from}
+use Rattle.plan_compile.specs.Slots.{all_made, newest_from, slot_count}
 use Rattle.plan_compile.proofs.AssembleLemmas.{all_layouts, numbers_of}
 use Rattle.plan_compile.proofs.BuildLemmas.{map_long}
 use Rattle.plan_compile.proofs.SoundLemmas.{builds_length}
@@ -37,3 +39,8 @@ returns-clause-layouts c =
     ap (λ (xs : List Build). layouts_in (table xs) ks (newest_from zero xs) xs) all
     ∙ all_layouts t sound c.len.result (table t.edges) ks (newest_from zero t.edges) count refl numbers refl in
     subst (λ (ws : List EdgeLayout). IfOk c.lay_out.result (λ ls. ls.items ≡ ws)) are c.lay_out.ensures.layouts
+
+pub returns-clause-refused : goal.returns-clause-refused
+returns-clause-refused c =
+    let all : c.in_ok-named.named.builds.items ≡ (builds c.args.rule c.args.manifest.now c.args.graph.now).edges = c.in_ok-named.ensures.builds in
+    subst (λ (xs : List Build). IfErr c.lay_out.result (λ f. f ≡ fault.Limit → MAX_SLOTS < slot_count xs)) all c.lay_out.ensures.refused

@@ -3,7 +3,7 @@ use Rattle.plan_image.specs.declared.image.Parts.{Parts}
 use Rattle.plan_image.specs.Refusal.{IsPartsFault}
 use Rattle.plan_compile.specs.Images.{compiled}
 use Rattle.plan_compile.proofs.RefusalLemmas.{passes_limit}
-use Rattle.plan_compile.proofs.compiling.compile.Goals as goal
+use Rattle.plan_compile.proofs.compiling.compile_with.Goals as goal
 
 pub returns-in-Err-clause-refused : goal.returns-in-Err-clause-refused
 returns-in-Err-clause-refused c =
