@@ -6,8 +6,9 @@
 Trees are those of builds.py, and one of a single edge; without words 1, 1000, 10000 and 1000x200 at -j 4, and 10000 at
 -j 1 and -j 2. If there is a C compiler, floor.c is timed too: threads that only ask for as many stamps as `plan_ninja
 run`. Then `--version`, and CMake's configuration of a project with 47 checks of the compiler, each of which is a build.
-Printed are medians of wall time, and in brackets the least; ratios to ninja of both; and the peak of memory where
-`time` is there. It is no test and asserts nothing.
+Printed are medians of wall time, and in brackets the least; ratios to ninja of both; the median of the ratios of each
+round, which depends least on a host that changes its speed; and the peak of memory where `time` is there. It is no test
+and asserts nothing.
 """
 from __future__ import annotations
 
@@ -43,13 +44,15 @@ def seconds(words: list[str], folder: pathlib.Path) -> float:
 
 
 def show(what: str, runs: dict[str, list[float]]) -> None:
-    """Prints the medians and the least times, and their ratios to ninja's."""
+    """Prints the medians and the least times, their ratios to ninja's, and the median of the ratios of each round."""
     ninja = runs["ninja"]
     print(what, flush=True)
     for name, found in runs.items():
         middle, least = statistics.median(found) * 1000, min(found) * 1000
         ratios = middle / statistics.median(ninja) / 1000, least / min(ninja) / 1000
-        print(f"  {name:12} {middle:8.2f} ({least:8.2f}) ms   {ratios[0]:5.2f} ({ratios[1]:5.2f})", flush=True)
+        of_rounds = statistics.median(ours / theirs for ours, theirs in zip(found, ninja))
+        told = f"{middle:8.2f} ({least:8.2f}) ms   {ratios[0]:5.2f} ({ratios[1]:5.2f})   rounds {of_rounds:5.2f}"
+        print(f"  {name:12} {told}", flush=True)
 
 
 def rounds(builders: dict[str, list[str]], folders: dict[str, pathlib.Path], count: int) -> dict[str, list[float]]:
