@@ -73,6 +73,14 @@ const TRACE2_HELP: &str = "Second trace: compare both runs";
 
 const IMAGE_HELP: &str = "Plan image to read";
 
+/// Creates an argument that is a file's path, and isn't optional.
+fn file_argument<'a>(alloc: Global, name: &'a str, help: &'a str) -> Arg<'a> {
+    Arg::new(alloc, name)
+        .required(true)
+        .action(ArgAction::Set)
+        .help(help)
+}
+
 /// Creates a command that reads one file.
 fn file_command<'a>(
     alloc: Global,
@@ -80,41 +88,33 @@ fn file_command<'a>(
     about: (&'a str, &'a str),
     argument: (&'a str, &'a str),
 ) -> Result<Command<'a>, AllocError> {
-    let file = Arg::new(alloc, argument.0)
-        .required(true)
-        .action(ArgAction::Set)
-        .help(argument.1);
     Command::new(alloc, name)
         .about(about.0)
         .long_about(about.1)
-        .arg(file)
+        .arg(file_argument(alloc, argument.0, argument.1))
 }
 
 /// Creates the command that reads a manifest and writes a plan image.
 fn compile_command<'a>(alloc: Global) -> Result<Command<'a>, AllocError> {
     let about = (COMPILE_ABOUT, COMPILE_LONG_ABOUT);
-    let output = Arg::new(alloc, "IMG")
-        .short('o')
-        .long("output")
-        .required(true)
-        .action(ArgAction::Set)
-        .help(OUTPUT_HELP);
-    file_command(alloc, "compile", about, ("FILE", FILE_HELP))?.arg(output)
+    let command = file_command(alloc, "compile", about, ("FILE", FILE_HELP))?;
+    command.arg(
+        file_argument(alloc, "IMG", OUTPUT_HELP)
+            .short('o')
+            .long("output"),
+    )
 }
 
 /// Creates the command that reads an image and one or two traces.
 fn replay_command<'a>(alloc: Global) -> Result<Command<'a>, AllocError> {
     let about = (REPLAY_ABOUT, REPLAY_LONG_ABOUT);
-    let trace = Arg::new(alloc, "TRACE")
-        .required(true)
-        .action(ArgAction::Set)
-        .help(TRACE_HELP);
-    let other = Arg::new(alloc, "TRACE2")
-        .action(ArgAction::Set)
-        .help(TRACE2_HELP);
-    file_command(alloc, "replay", about, ("IMG", IMAGE_HELP))?
-        .arg(trace)?
-        .arg(other)
+    let command = file_command(alloc, "replay", about, ("IMG", IMAGE_HELP))?;
+    let command = command.arg(file_argument(alloc, "TRACE", TRACE_HELP))?;
+    command.arg(
+        Arg::new(alloc, "TRACE2")
+            .action(ArgAction::Set)
+            .help(TRACE2_HELP),
+    )
 }
 
 /// Creates the command that prints the commands of a manifest.
@@ -193,43 +193,58 @@ const RUN_TRACE_HELP: &str =
 
 const TARGETS_HELP: &str = "Files to build, instead of the default targets";
 
-/// Adds the options of `run` to a command.
-fn options<'a>(alloc: Global, command: Command<'a>) -> Result<Command<'a>, AllocError> {
-    let jobs = Arg::new(alloc, "N")
+/// Creates the option `-j`.
+fn jobs_option<'a>(alloc: Global) -> Arg<'a> {
+    Arg::new(alloc, "N")
         .short('j')
         .long("jobs")
         .value_parser(value_parser!(u8).range(1..=64))
         .default_value("4")
-        .help(JOBS_HELP);
-    let keep = Arg::new(alloc, "K")
+        .help(JOBS_HELP)
+}
+
+/// Creates the option `-k`.
+fn keep_option<'a>(alloc: Global) -> Arg<'a> {
+    Arg::new(alloc, "K")
         .short('k')
         .long("keep-going")
         .value_parser(value_parser!(u32))
         .default_value("1")
-        .help(KEEP_HELP);
-    let record = Arg::new(alloc, "F")
+        .help(KEEP_HELP)
+}
+
+/// Creates the option `--record`.
+fn record_option<'a>(alloc: Global) -> Arg<'a> {
+    Arg::new(alloc, "F")
         .long("record")
         .default_value(".plan_record")
-        .help(RECORD_HELP);
-    let trace = Arg::new(alloc, "T").long("trace").help(RUN_TRACE_HELP);
-    command.arg(jobs)?.arg(keep)?.arg(record)?.arg(trace)
+        .help(RECORD_HELP)
+}
+
+/// Creates the option `--trace`.
+fn trace_option<'a>(alloc: Global) -> Arg<'a> {
+    Arg::new(alloc, "T").long("trace").help(RUN_TRACE_HELP)
+}
+
+/// Adds the options of `run` to a command.
+fn with_options<'a>(alloc: Global, command: Command<'a>) -> Result<Command<'a>, AllocError> {
+    let command = command.arg(jobs_option(alloc))?;
+    let command = command.arg(keep_option(alloc))?;
+    let command = command.arg(record_option(alloc))?;
+    command.arg(trace_option(alloc))
 }
 
 /// Creates the command `run` with its arguments.
 pub fn run_command<'a>(alloc: Global, image_help: &'a str) -> Result<Command<'a>, AllocError> {
-    let image = Arg::new(alloc, "IMG")
-        .required(true)
-        .action(ArgAction::Set)
-        .help(image_help);
-    let targets = Arg::new(alloc, "TARGET")
-        .num_args(0..)
-        .action(ArgAction::Append)
-        .help(TARGETS_HELP);
-    let command = Command::new(alloc, "run")
-        .about(RUN_ABOUT)
-        .long_about(RUN_LONG_ABOUT)
-        .arg(image)?;
-    options(alloc, command)?.arg(targets)
+    let about = (RUN_ABOUT, RUN_LONG_ABOUT);
+    let command = file_command(alloc, "run", about, ("IMG", image_help))?;
+    let command = with_options(alloc, command)?;
+    command.arg(
+        Arg::new(alloc, "TARGET")
+            .num_args(0..)
+            .action(ArgAction::Append)
+            .help(TARGETS_HELP),
+    )
 }
 
 /// Returns the request of `run`. Returns `None` if a required word is missing.
