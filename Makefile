@@ -20,6 +20,7 @@ help:
 	@echo "Change it:"
 	@echo "  make quick     prove one crate, or one module of it (CRATE=plan_text ONLY=path); 5 to 60 s for a module"
 	@echo "  make rows      run the rows, or some of them (NAMES='tab_* scopes/*'); half a minute"
+	@echo "  make units     run the unit tests, compiled without proofs; ten minutes"
 	@echo "  make tests     run all tests of the program; 4 to 6 minutes"
 	@echo "  make check     run the whole gate: proofs, must-fail edits, tests"
 	@echo "  make edits     try the must-fail edits, also those that the gate leaves out (CRATES=plan_text); a minute each"
@@ -89,21 +90,26 @@ tests: built
 # counts on three times as much, and leaves processors idle.
 GATE_JOBS = $(shell awk -v n=$$(nproc) '/^MemAvailable/ {m = int($$2 / 4000000); print m < 1 ? 1 : m < n ? m : n}' /proc/meminfo)
 
-# The gate: the documents, then every proof and test, the must-fail edits, the bodies that tests refuse, refused
+# The gate: the documents, the unit tests, every proof, the must-fail edits, the bodies that tests refuse, refused
 # allocations, and then the program.
 .PHONY: check
 check: kit
 	python3 tools/manifest_names.py
 	python3 tools/edits.py --fit $(CRATES)
-	RT_JOBS=$(GATE_JOBS) rt ci | tee gate.log
-	python3 tools/edit_log.py gate.log
+	python3 tools/unit_tests.py
+	RT_JOBS=$(GATE_JOBS) python3 tools/prove_all.py | tee gate.log
 	python3 tools/edits.py --gate --jobs $(GATE_JOBS) $(CRATES)
-	python3 tools/wrong_bodies.py --tests-passed
+	python3 tools/wrong_bodies.py --gate --tests-passed
 	$(MAKE) calls
 	$(MAKE) tests
 
-# The must-fail edits of some crates, also those that the gate leaves out. They are tried over proved crates: `make check`
-# first, or `rt ci` with no names.
+# The unit tests, compiled without proofs.
+.PHONY: units
+units: kit
+	python3 tools/unit_tests.py
+
+# The must-fail edits and the wrong bodies of some crates, also those that the gate leaves out. Edits are tried over
+# proved crates: `make check` first, or `rt ci`.
 CRATES = $(notdir $(patsubst %/,%,$(wildcard crates/*/)))
 .PHONY: edits
 edits: kit

@@ -14,7 +14,7 @@ import call_graph
 
 ROOT = pathlib.Path(__file__).resolve().parent.parent
 WIDTH = 120
-CODE = ("crates/*/src/**/*.rt", "crates/*/specs/**/*.antt", "crates/*/proofs/**/*.antt", "crates/*/must-fail/*.edit",
+CODE = ("crates/*/src/**/*.rt", "crates/*/specs/**/*.antt", "crates/*/proofs/**/*.antt",
         "tests/**/*.py", "tests/must_fail/**/*.edit", "tests/edits/**/*.edit", "tests/lib/*.c", "tools/*.py",
         "bench/*.py", "Makefile", "crates.txt")
 NARROW = ("*.md", "docs/**/*.md", "docs/**/*.trace", "tests/**/*.md", "tests/*.py", "tests/lib/*.py",

@@ -4,13 +4,14 @@
 Each edit is made in a copy of its crate, and the functions that it changes are checked over the proved crates below,
 those that `rt ci` left in crates/*/out; so most edits take ten seconds to two minutes, and `rt must-fail` would check a
 crate whole before the first one. The crates have to be proved: then a goal that isn't proved is the edit's fault. An
-edit is refused if the prover says that a goal is not proved. If it stops in a written answer
-instead, because the answer names a value that the edit changed, the edit has to say so in a line `refused-in-answer:`.
-A line `check: module::function` names the function to check if it isn't the changed one. If a definition of specs/ is
-changed and there is no such line, the whole crate is checked. With --gate only the edits of tests/must_fail are tried,
-and otherwise those of tests/edits too. With --fit none is tried: each text that an edit
-replaces must stand once in its file, also of those that `rt ci` and tools/wrong_bodies.py try. The last line is
-`N passed, M failed`.
+edit is refused if the prover says that a goal of a function that it changes is not proved. If it stops in a written
+answer instead, because the answer names a value that the edit changed, the edit has to say so in a line
+`refused-in-answer:`. A line `check: module::function` names the function to check if it isn't the changed one. If a
+definition of specs/ is changed and there is no such line, the whole crate is checked. Edits of a crate that change
+different functions are tried at once, since each check takes some ten seconds before its first function. An edit that
+isn't refused that way is tried by itself. With --gate only the edits of tests/must_fail are tried, and otherwise those
+of tests/edits too. With --fit none is tried: each text that an edit replaces must stand once in its file, also of those
+that tools/wrong_bodies.py tries. The last line is `N passed, M failed`.
 """
 from __future__ import annotations
 
@@ -36,6 +37,7 @@ BLOCK = re.compile(r"^(?:(?:unsafe )?impl\b|(?:pub(?:\([^)]*\))? )?trait \w)[^{]
 ITEM = re.compile(r"impl(?:<.*?>)? (?:(?P<trait>[\w:]+)(?:<[^{]*?>)? for )?(?P<type>[\w:]+)|trait (?P<name>\w+)")
 FUNCTION = re.compile(r"^(?P<indent> *)(?:pub(?:\([^)]*\))? )?(?:const |unsafe )*fn (?P<name>\w+)")
 GOAL = "it is not proved that"
+CHECKED = re.compile(r"^fn (\S+): (?!no holes|proved)")
 ANSWER = re.compile(r"Answers\.antt|Invariants\.antt|Proof\.antt")
 
 
@@ -77,11 +79,11 @@ def edits_of(crate: str, folders: Sequence[str]) -> list[Edit]:
     return [read(path) for name in folders for path in sorted((ROOT / "tests" / name / crate).glob("*.edit"))]
 
 
-def misfits(edit: Edit, crate: str) -> Iterator[str]:
-    """Yields the texts that an edit replaces, if they don't stand once in their file."""
+def misfits(edit: Edit, crate: str, home: pathlib.Path | None = None) -> Iterator[str]:
+    """Yields the texts that an edit replaces, if they don't stand once in their file of the crate, or of a copy."""
     texts: dict[str, str] = {}
     for file, old, new in edit.changes:
-        text = texts.setdefault(file, (ROOT / "crates" / crate / file).read_text())
+        text = texts.setdefault(file, ((home or ROOT / "crates" / crate) / file).read_text())
         if text.count(old) != 1:
             yield f"{crate}/{edit.path.name}: {text.count(old)} times: {old}"
         texts[file] = text.replace(old, new)
@@ -91,8 +93,7 @@ def fit(crates: Sequence[str]) -> tuple[int, int]:
     """Returns how many edits of these crates there are, and how many texts of them don't fit."""
     count, found = 0, []
     for crate in crates:
-        own = [read(path) for path in sorted((ROOT / "crates" / crate / "must-fail").glob("*.edit"))]
-        own += edits_of(crate, (GATE, OTHER, "wrong_bodies"))
+        own = edits_of(crate, (GATE, OTHER, "wrong_bodies"))
         found += [line for edit in own for line in misfits(edit, crate)]
         count += len(own)
     for line in found:
@@ -124,16 +125,27 @@ def function_at(file: str, text: str, place: int) -> str:
     return f"{item['name'] or item['type'].split('::')[-1]}{of_trait}::{found['name']}"
 
 
+def functions(edit: Edit, home: pathlib.Path) -> list[str]:
+    """Returns the functions that an edit changes, before it is made in a copy of its crate.
+
+    If it changes something else, there is the module instead, with `::` after it.
+    """
+    names, texts = [], {}
+    for file, old, new in edit.changes:
+        text = texts.get(file) or (home / file).read_text()
+        if file.startswith("src/"):
+            names.append(function_at(file, text, text.index(old)))
+        texts[file] = text.replace(old, new, 1)
+    return edit.checked or list(dict.fromkeys(names))
+
+
 def apply(edit: Edit, home: pathlib.Path) -> list[str]:
     """Makes an edit in a copy of its crate, and returns the functions that it changes."""
-    names = []
+    names = functions(edit, home)
     for file, old, new in edit.changes:
         path = home / file
-        text = path.read_text()
-        if file.startswith("src/"):
-            names.append(function_at(file, text, text.index(old)).rstrip(":"))
-        path.write_text(text.replace(old, new, 1))
-    return edit.checked or list(dict.fromkeys(names))
+        path.write_text(path.read_text().replace(old, new, 1))
+    return [name.rstrip(":") for name in names]
 
 
 def verdict(edit: Edit, status: int, log: str) -> tuple[bool, str]:
@@ -149,13 +161,18 @@ def verdict(edit: Edit, status: int, log: str) -> tuple[bool, str]:
     return False, f"BAD EDIT, status {status}: {found.strip() or log[-600:].strip()}"
 
 
-def try_one(edit: Edit, words: Sequence[str], home: pathlib.Path) -> tuple[bool, str]:
-    """Tries one edit in a copy of its crate."""
-    source = ROOT / "crates" / edit.crate
+def copy_crate(crate: str, home: pathlib.Path) -> None:
+    """Copies a crate to a folder, in the place of an earlier copy."""
+    source = ROOT / "crates" / crate
     for part in ("src", "specs", "proofs"):
         shutil.rmtree(home / part, ignore_errors=True)
         if (source / part).is_dir():
             shutil.copytree(source / part, home / part)
+
+
+def try_one(edit: Edit, words: Sequence[str], home: pathlib.Path) -> tuple[bool, str]:
+    """Tries one edit in a copy of its crate."""
+    copy_crate(edit.crate, home)
     misfit = next(misfits(edit, edit.crate), None)
     if misfit:
         return False, f"BAD EDIT: {misfit}"
@@ -164,16 +181,59 @@ def try_one(edit: Edit, words: Sequence[str], home: pathlib.Path) -> tuple[bool,
     return verdict(edit, done.returncode, done.stdout.decode(errors="replace"))
 
 
+def refusals(log: str) -> dict[str, str]:
+    """Returns the functions of which a goal isn't proved, each with the line that says so."""
+    found, goal = {}, None
+    for line in log.splitlines():
+        goal = goal or (line.strip() if GOAL in line else None)
+        if line.startswith("fn "):
+            checked = CHECKED.match(line)
+            if goal and checked:
+                found[checked[1]] = goal
+            goal = None
+    return found
+
+
+def try_together(edits: Sequence[Edit], words: Sequence[str], home: pathlib.Path) -> dict[pathlib.Path, str]:
+    """Makes edits of different functions in one copy of their crate. Returns those that are refused, with the reason.
+
+    An edit is left out if it gives a reason or names a function to check, changes a definition, or changes a function
+    or a text that an earlier edit changes.
+    """
+    changed: dict[pathlib.Path, list[str]] = {}
+    copy_crate(edits[0].crate, home)
+    for edit in edits:
+        of_code = all(file.startswith("src/") for file, _, _ in edit.changes)
+        if edit.reason or edit.checked or not of_code or next(misfits(edit, edit.crate, home), None):
+            continue
+        taken = {name for names in changed.values() for name in names}
+        names = functions(edit, home)
+        if taken.isdisjoint(names) and not any(name.endswith("::") or not name for name in names):
+            changed[edit.path] = apply(edit, home)
+    if len(changed) < 2:
+        return {}
+    only = [word for names in changed.values() for name in names for word in ("--only", name)]
+    done = subprocess.run([*words, "--allow-holes", *only], cwd=home, stdout=subprocess.PIPE, stderr=subprocess.STDOUT)
+    found = refusals(done.stdout.decode(errors="replace"))
+    goals = {path: [goal for name, goal in found.items() if name.endswith(tuple(f"::{it}" for it in names))]
+             for path, names in changed.items()}
+    return {path: own[0] for path, own in goals.items() if own}
+
+
 def try_all(edits: Sequence[Edit], proved: pathlib.Path, folder: pathlib.Path) -> list[bool]:
-    """Tries edits of one crate, one after another, and prints how each ended."""
+    """Tries edits of one crate, first many at once and then the others one after another, and prints how each ended."""
     crate, refused = edits[0].crate, []
     home = folder / crate
     home.mkdir()
     words = [*over_sources.words(crate, over_sources.crates(), proved), "--incremental", str(folder / f"kept-{crate}")]
+    begun = time.monotonic()
+    together = try_together(edits, words, home)
+    took = f"{time.monotonic() - begun:.0f} s"
+    print(f"{crate}: {len(together)} of {len(edits)} edits refused at once, {took}", flush=True)
     for edit in edits:
         begun = time.monotonic()
-        passed, said = try_one(edit, words, home)
-        took = f"{time.monotonic() - begun:.0f} s"
+        passed, said = (True, together[edit.path]) if edit.path in together else try_one(edit, words, home)
+        took = "at once" if edit.path in together else f"{time.monotonic() - begun:.0f} s"
         print(f"{edit.path.relative_to(ROOT)}: {'refused' if passed else 'FAILED'}, {took}: {said}", flush=True)
         refused.append(passed)
     return refused

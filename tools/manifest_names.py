@@ -12,7 +12,7 @@ stand lines `KEY: VALUE`, which go on with lines that are indented by two spaces
   builds     cases of tests/builds, as FILE/NAME
   tests      unit tests, in the crate or in a crate plan_tests_*
   examples   Rows: examples that the checker computes in proofs/Rows.antt
-  edits      wrong bodies that the prover refuses, in the crate's must-fail/, in tests/must_fail/ or in tests/edits/
+  edits      wrong bodies that the prover refuses, in tests/must_fail/ or in tests/edits/
 
 Names are those of the crate in the section's title. For names of another crate, write a semicolon, the name of that
 crate, and then the names: `own_name, other_own_name; plan_text name_of_plan_text`.
@@ -175,9 +175,8 @@ def fitting(patterns: str, names: Iterable[str]) -> Iterator[tuple[str, set[str]
 
 def edits() -> set[tuple[str, str]]:
     """Crate and name of each must-fail edit."""
-    small = {(path.parent.parent.name, path.stem) for path in ROOT.glob("crates/*/must-fail/*.edit")}
-    other = [path for name in ("must_fail", "edits") for path in ROOT.glob(f"tests/{name}/*/*.edit")]
-    return small | {(path.parent.name, path.stem) for path in other}
+    paths = [path for name in ("must_fail", "edits") for path in ROOT.glob(f"tests/{name}/*/*.edit")]
+    return {(path.parent.name, path.stem) for path in paths}
 
 
 def faults_of(rule: Rule, functions: Functions) -> Iterator[str]:

@@ -4,8 +4,8 @@
 They say nothing wrong and are of no use: lanes that work one after another, or a call that always answers want of
 memory. Such an edit names, in its line `tests:`, a crate of tests and one of its tests. On copies of the tree the test
 has to pass (`rt try`, which proves nothing), and has to fail once the edit is made. With --tests-passed it isn't run
-without the edit, since `rt ci` has just run all tests on these sources. Two tests run side by side. The last line is
-`N passed, M failed`.
+without the edit, since all tests have just passed on these sources. With --gate only edits are tried that have a line
+`gate:`, which says what they would break. Two tests run side by side. The last line is `N passed, M failed`.
 """
 from __future__ import annotations
 
@@ -36,11 +36,13 @@ class Edit(NamedTuple):
     file: str
     old: str
     new: str
+    gate: bool
 
 
 def read(path: pathlib.Path) -> Edit:
     said = dict(line.split(": ", 1) for line in path.read_text().splitlines())
-    return Edit(path.parent.name, Test(*said["tests"].split()), said["file"], said["old"], said["new"])
+    test = Test(*said["tests"].split())
+    return Edit(path.parent.name, test, said["file"], said["old"], said["new"], bool(said.get("gate")))
 
 
 def tried(test: Test, edit: Edit | None) -> str:
@@ -63,10 +65,12 @@ def tried(test: Test, edit: Edit | None) -> str:
 def main() -> None:
     parser = argparse.ArgumentParser(description=__doc__, formatter_class=argparse.RawDescriptionHelpFormatter)
     parser.add_argument("crates", metavar="CRATE", nargs="*", help="whose wrong bodies (of all crates without any)")
-    parser.add_argument("--tests-passed", action="store_true", help="rt ci has just run all tests on these sources")
+    parser.add_argument("--tests-passed", action="store_true", help="all unit tests have just passed on these sources")
+    parser.add_argument("--gate", action="store_true", help="only those with a line gate:")
     asked = parser.parse_args()
     paths = sorted((ROOT / "tests" / "wrong_bodies").glob("*/*.edit"))
     edits = {path: read(path) for path in paths if not asked.crates or path.parent.name in asked.crates}
+    edits = {path: edit for path, edit in edits.items() if edit.gate or not asked.gate}
     passed = failed = 0
     with concurrent.futures.ThreadPoolExecutor(SIDE_BY_SIDE) as lanes:
         tests = {edit.test: None for edit in edits.values() if not asked.tests_passed}

@@ -1,0 +1,84 @@
+#!/usr/bin/env python3
+"""Proves all crates from nothing by `rt ci`, but for the unit tests.
+
+`rt ci` also proves unit tests, and each crate that has some a second time: as much work as all the rest. A proof of a
+test says nothing of the programs, so the gate runs tests without proofs (tools/unit_tests.py). Here `rt ci` is run on a
+copy of the repository in which crates that only have tests, or data for them, are missing, and so are the modules below
+`#[cfg(test)]`. What it makes is moved to crates/*/out: libraries and programs. By itself, `rt ci` still proves the
+tests too.
+"""
+from __future__ import annotations
+
+import argparse
+import pathlib
+import re
+import shutil
+import signal
+import subprocess
+import sys
+import tempfile
+
+ROOT = pathlib.Path(__file__).resolve().parent.parent
+ONLY_TESTS = re.compile(r"(?:plan_tests_\w+|plan_samples):")
+TESTS = re.compile(r"^#\[cfg\(test\)\]\nmod (\w+);\n", re.MULTILINE)
+
+
+def remove(path: pathlib.Path) -> None:
+    """Removes a file or a folder, if it is there."""
+    if path.is_dir():
+        shutil.rmtree(path)
+    else:
+        path.unlink(missing_ok=True)
+
+
+def without_tests(crate: pathlib.Path) -> None:
+    """Removes the modules of tests from a crate, with what is written of their proofs."""
+    for root in (crate / "src" / "lib.rt", crate / "src" / "main.rt"):
+        text = root.read_text() if root.is_file() else ""
+        for name in TESTS.findall(text):
+            for path in (root.with_name(f"{name}.rt"), root.with_name(name), crate / "proofs" / name):
+                remove(path)
+        if TESTS.search(text):
+            root.write_text(TESTS.sub("", text).rstrip("\n") + "\n")
+
+
+def copy_without_tests(home: pathlib.Path) -> None:
+    """Copies what `rt ci` reads, without tests."""
+    shutil.copy(ROOT / "HANDLES", home)
+    lines = (ROOT / "crates.txt").read_text().splitlines(keepends=True)
+    kept = [line for line in lines if not ONLY_TESTS.match(line)]
+    (home / "crates.txt").write_text("".join(kept))
+    for line in kept:
+        crate = line.partition("#")[0].partition(":")[0].strip()
+        if crate:
+            shutil.copytree(ROOT / "crates" / crate, home / "crates" / crate, ignore=shutil.ignore_patterns("out"))
+            without_tests(home / "crates" / crate)
+
+
+def move_back(home: pathlib.Path) -> None:
+    """Moves libraries and programs to the crates of the repository, in the place of older ones."""
+    for made in (home / "crates").glob("*/out/*"):
+        to = ROOT / "crates" / made.parent.parent.name / "out"
+        to.mkdir(exist_ok=True)
+        remove(to / made.name)
+        shutil.move(made, to)
+
+
+def main() -> None:
+    argparse.ArgumentParser(description=__doc__, formatter_class=argparse.RawDescriptionHelpFormatter).parse_args()
+    signal.signal(signal.SIGTERM, lambda *_: sys.exit(143))  # so that the copy is removed
+    (ROOT / "out").mkdir(exist_ok=True)
+    with tempfile.TemporaryDirectory(prefix="proofs-", dir=ROOT / "out") as name:
+        home = pathlib.Path(name)
+        (home / ".git").mkdir()  # so that the copy counts as a repository
+        copy_without_tests(home)
+        status = subprocess.run(["rt", "ci"], cwd=home).returncode
+        move_back(home)
+    sys.exit(status)
+
+
+if __name__ == "__main__":
+    try:
+        main()
+    except KeyboardInterrupt:
+        sys.exit(130)
