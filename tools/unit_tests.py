@@ -17,6 +17,7 @@ import tests_path  # noqa: F401: it makes lib known
 from lib import programs
 
 ROOT = pathlib.Path(__file__).resolve().parent.parent
+SECONDS = 600  # at most, for each test: those of limits take a minute on a busy machine
 TEST = re.compile(r"^ *#\[test\]$", re.MULTILINE)
 RESULT = re.compile(r"^test result: ok\. (\d+) passed; 0 failed; 0 ignored", re.MULTILINE)
 ENDED = re.compile(r"^run=ended status=0 ", re.MULTILINE)
@@ -31,8 +32,8 @@ def count(crate: str) -> int:
 def passes(crate: str) -> bool:
     """Runs the tests of a crate, and prints how they ended; all that they printed if one failed."""
     begun = time.monotonic()
-    done = subprocess.run(["rt", "try", "--test"], cwd=ROOT / "crates" / crate, stdout=subprocess.PIPE,
-                          stderr=subprocess.STDOUT)
+    words = ["rt", "try", "--test", "--seconds", str(SECONDS)]
+    done = subprocess.run(words, cwd=ROOT / "crates" / crate, stdout=subprocess.PIPE, stderr=subprocess.STDOUT)
     said = done.stdout.decode(errors="replace")
     result = RESULT.search(said)
     passed = result is not None and int(result[1]) == count(crate) and ENDED.search(said) is not None
