@@ -22,7 +22,7 @@ use std::alloc::Global;
 use std::marker::Brand;
 use std::sync::{Condvar, Mutex, MutexGuard, Wait};
 use std::thread;
-use std::thread::Threads;
+use std::thread::{Threads, yield_now};
 
 /// The task of a lane after it released the lock.
 enum NextTask {
@@ -193,6 +193,32 @@ fn lane<J: RunBrand, W: World, R: Wait>(
     }
 }
 
+/// How often a lane tries to take the lock before it sleeps.
+const TRIES: u32 = 50;
+
+/// How often a lane lets other threads run between two tries. Each try takes a line of the cache from the lane that has
+/// the lock.
+const YIELDS: u32 = 4;
+
+/// Lets other threads run.
+fn let_others_run() {
+    for _ in 0..YIELDS {
+        yield_now();
+    }
+}
+
+/// Takes the lock. If another lane has it, tries again for a while before it sleeps: lanes hold the lock for less time
+/// than the system needs to wake a thread.
+fn try_then_lock<'a, T, R: Wait>(rt: &R, shared: &'a Mutex<T>) -> MutexGuard<'a, T> {
+    for _ in 0..TRIES {
+        if let Some(guard) = shared.try_lock() {
+            return guard;
+        }
+        let_others_run();
+    }
+    shared.lock(rt)
+}
+
 /// Asks the world questions of the batch, and takes the lock. If another lane has the lock, asks more questions before
 /// it tries again. Waits for the lock only when every question has been asked.
 fn ask_and_lock<'a, 'v, J: RunBrand, W: World, R: Wait>(
@@ -203,7 +229,7 @@ fn ask_and_lock<'a, 'v, J: RunBrand, W: World, R: Wait>(
 ) -> MutexGuard<'a, SharedRun<'v, W, J>> {
     for _ in rt.forever() {
         if !batch.ask_some(world) {
-            return shared.lock(rt);
+            return try_then_lock(rt, shared);
         }
         if let Some(guard) = shared.try_lock() {
             return guard;
@@ -288,7 +314,7 @@ fn apply_replies<J: RunBrand, W: World, R: Wait>(
     moved: &Condvar,
     batch: &mut Batch<W>,
 ) -> bool {
-    let mut guard = shared.lock(rt);
+    let mut guard = try_then_lock(rt, shared);
     batch.apply_replies(&mut guard);
     guard.show();
     if guard.stopped() != Stopped::No {
