@@ -107,6 +107,7 @@ impl Body {
 
     /// Returns the instruction at a place, counted from 0, with the operands of an edge filled in. A missing
     /// operand counts as 0. The operands are read only if the instruction is open.
+    #[inline(always)]
     pub fn instr(&self, numbers: &[u32], place: usize) -> Option<Instr>
         ensures { result ≡ slice_get (with_operands self.now numbers.now) place }
     {
@@ -423,6 +424,7 @@ impl<'a> CodeView<'a> {
 
     /// Returns the instruction at a place, counted from 0. Returns None if there is no such instruction. The
     /// time is the same for each place.
+    #[inline(always)]
     pub fn instr(&self, place: u32) -> Option<Instr>
         ensures { result ≡ slice_get self.now place }
     {
