@@ -1,17 +1,19 @@
 #!/usr/bin/env python3
 """Times builds with nothing to do: plan_build, ninja, and `plan_ninja run` with an image, in the same rounds.
 
-    bench/idle.py PROGRAM [OBJECTS[xHEADERS][:JOBS] ..]
+    bench/idle.py [--keep FOLDER] PROGRAM [OBJECTS[xHEADERS][:JOBS] ..]
 
 Trees are those of builds.py, and one of a single edge; without words 1, 1000, 10000 and 1000x200 at -j 4, and 10000 at
 -j 1 and -j 2. If there is a C compiler, floor.c is timed too: threads that only ask for as many stamps as `plan_ninja
 run`. Then `--version`, and CMake's configuration of a project with 47 checks of the compiler, each of which is a build.
 Printed are medians of wall time, and in brackets the least; ratios to ninja of both; the median of the ratios of each
-round, which depends least on a host that changes its speed; and the peak of memory where `time` is there. It is no test
-and asserts nothing.
+round, which depends least on a host that changes its speed; and the peak of memory where `time` is there. With --keep
+the trees stay in a folder, and those that are there are used again, since first builds take longer than all else. It is
+no test and asserts nothing.
 """
 from __future__ import annotations
 
+import contextlib
 import pathlib
 import shutil
 import statistics
@@ -19,6 +21,7 @@ import subprocess
 import sys
 import tempfile
 import time
+from collections.abc import Iterator
 
 from builds import LIBRARY, OF_EACH, headers_of, written
 from timing import measured, programs
@@ -83,22 +86,54 @@ def questions(count: int, each: int) -> list[str]:
     return paths + [f"out/lib{part}.a" for part in range(0, count, LIBRARY)]
 
 
-def bench(program: str, front: str, ninja: str, count: int, each: int, jobs: str) -> None:
+@contextlib.contextmanager
+def folder_of(tree: str, kept: pathlib.Path | None) -> Iterator[pathlib.Path]:
+    """Gives the folder of a tree, which is a temporary one if trees aren't kept."""
+    if kept:
+        (kept / tree).mkdir(parents=True, exist_ok=True)
+        yield kept / tree
+    else:
+        with tempfile.TemporaryDirectory() as name:
+            yield pathlib.Path(name)
+
+
+def built(builders: dict[str, list[str]], folders: dict[str, pathlib.Path], count: int, each: int) -> dict[str, float]:
+    """Writes and builds a tree for each builder that has none yet. Returns the peak of memory of each build, in MiB."""
+    first = {}
+    for name, words in builders.items():
+        folder = folders[name]
+        if folder.is_dir():
+            continue
+        folder.mkdir()
+        if count == 1:
+            (folder / "build.ninja").write_text("rule t\n  command = : > $out\nbuild a: t in\n")
+            (folder / "in").touch()
+        else:
+            written(count, folder, each)
+        if "plan.img" in words:
+            measured([words[0], "compile", "build.ninja", "-o", "plan.img"], folder)
+        first[name] = measured(words, folder).mebibytes
+    return first
+
+
+def show_memory(what: str, found: dict[str, float]) -> None:
+    """Prints the peaks of memory, and their ratios to ninja's."""
+    ninja = max(found.get("ninja", 0.0), 0.1)
+    if "ninja" in found:
+        told = ", ".join(f"{name} {peak:.1f} ({peak / ninja:.2f})" for name, peak in found.items() if name != "floor")
+        print(f"  memory in MiB, {what}: {told}", flush=True)
+
+
+def bench(program: str, front: str, ninja: str, tree: str, kept: pathlib.Path | None) -> None:
     """Times builds of a tree of so many objects, or of one edge."""
-    with tempfile.TemporaryDirectory() as name:
-        home = pathlib.Path(name)
+    objects, _, given = tree.partition(":")
+    words = objects.partition("x")
+    count, each, jobs = int(words[0]), int(words[2] or OF_EACH), given or "4"
+    with folder_of(objects, kept) as home:
         builders = {"ninja": [ninja], "plan_build": [front], "plan_ninja": [program, "run", "plan.img"]}
         builders = {name: [*words, "-j", jobs] for name, words in builders.items()}
         folders = {name: home / name for name in builders}
-        for folder in folders.values():
-            folder.mkdir()
-            if count == 1:
-                (folder / "build.ninja").write_text("rule t\n  command = : > $out\nbuild a: t in\n")
-                (folder / "in").touch()
-            else:
-                written(count, folder, each)
-        measured([program, "compile", "build.ninja", "-o", "plan.img"], folders["plan_ninja"])
-        first = {name: measured(words, folders[name]).mebibytes for name, words in builders.items()}
+        first = built(builders, folders, count, each)
         floor = floor_in(home) if count > 1 else None
         if floor:
             (home / "questions").write_text("".join(f"{path}\n" for path in questions(count, each)))
@@ -109,10 +144,8 @@ def bench(program: str, front: str, ninja: str, count: int, each: int, jobs: str
         if floor:
             least = min(runs["plan_ninja"]) / min(runs["floor"])
             print(f"  plan_ninja takes {least:.2f} times the floor, by the least")
-        for what, found in (("first build", first), ("nothing to do", idle)):
-            ratios = {name: found[name] / max(found["ninja"], 0.1) for name in first}
-            told = ", ".join(f"{name} {found[name]:.1f} ({ratio:.2f})" for name, ratio in ratios.items())
-            print(f"  memory in MiB, {what}: {told}", flush=True)
+        show_memory("first build", first)
+        show_memory("nothing to do", idle)
 
 
 def configured(builder: str, source: pathlib.Path, home: pathlib.Path) -> float:
@@ -141,14 +174,13 @@ def bench_cmake(front: str, ninja: str) -> None:
 def main() -> None:
     parser = programs.arguments(__doc__)
     parser.add_argument("trees", metavar="OBJECTS[xHEADERS][:JOBS]", nargs="*")
+    parser.add_argument("--keep", metavar="FOLDER", type=lambda path: pathlib.Path(path).resolve())
     asked = parser.parse_args()
     ninja, front = shutil.which("ninja"), programs.front(asked.program)
     if ninja is None:
         sys.exit("no ninja")
     for tree in asked.trees or TREES:
-        objects, _, jobs = tree.partition(":")
-        count, _, each = objects.partition("x")
-        bench(asked.program, front, ninja, int(count), int(each or OF_EACH), jobs or "4")
+        bench(asked.program, front, ninja, tree, asked.keep)
     if asked.trees:
         return
     here = pathlib.Path.cwd()
