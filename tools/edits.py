@@ -194,8 +194,8 @@ def refusals(log: str) -> dict[str, str]:
     return found
 
 
-def try_together(edits: Sequence[Edit], words: Sequence[str], home: pathlib.Path) -> dict[pathlib.Path, str]:
-    """Makes edits of different functions in one copy of their crate. Returns those that are refused, with the reason.
+def make_together(edits: Sequence[Edit], home: pathlib.Path) -> dict[pathlib.Path, list[str]]:
+    """Makes edits of different functions in one copy of their crate. Returns those that are made, and what they change.
 
     An edit is left out if it gives a reason or names a function to check, changes a definition, or changes a function
     or a text that an earlier edit changes.
@@ -210,8 +210,12 @@ def try_together(edits: Sequence[Edit], words: Sequence[str], home: pathlib.Path
         names = functions(edit, home)
         if taken.isdisjoint(names) and not any(name.endswith("::") or not name for name in names):
             changed[edit.path] = apply(edit, home)
-    if len(changed) < 2:
-        return {}
+    return changed
+
+
+def refused_together(changed: dict[pathlib.Path, list[str]], words: Sequence[str],
+                     home: pathlib.Path) -> dict[pathlib.Path, str]:
+    """Checks what edits change that are made in one copy. Returns those that are refused, with the reason."""
     only = [word for names in changed.values() for name in names for word in ("--only", name)]
     done = subprocess.run([*words, "--allow-holes", *only], cwd=home, stdout=subprocess.PIPE, stderr=subprocess.STDOUT)
     found = refusals(done.stdout.decode(errors="replace"))
@@ -226,10 +230,14 @@ def try_all(edits: Sequence[Edit], proved: pathlib.Path, folder: pathlib.Path) -
     home = folder / crate
     home.mkdir()
     words = [*over_sources.words(crate, over_sources.crates(), proved), "--incremental", str(folder / f"kept-{crate}")]
-    begun = time.monotonic()
-    together = try_together(edits, words, home)
-    took = f"{time.monotonic() - begun:.0f} s"
-    print(f"{crate}: {len(together)} of {len(edits)} edits refused at once, {took}", flush=True)
+    left, together = list(edits), {}
+    while left and len(changed := make_together(left, home)) > 1:
+        begun = time.monotonic()
+        found = refused_together(changed, words, home)
+        together.update(found)
+        left = [edit for edit in left if edit.path not in changed]
+        took = f"{time.monotonic() - begun:.0f} s"
+        print(f"{crate}: {len(found)} of {len(changed)} edits refused at once, {took}", flush=True)
     for edit in edits:
         begun = time.monotonic()
         passed, said = (True, together[edit.path]) if edit.path in together else try_one(edit, words, home)
