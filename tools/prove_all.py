@@ -55,6 +55,13 @@ def copy_without_tests(home: pathlib.Path) -> None:
             without_tests(home / "crates" / crate)
 
 
+def unmade(home: pathlib.Path) -> list[str]:
+    """Returns the crates of which `rt ci` made neither a library nor a program."""
+    made = {crate.name: (crate / "out" / "rlib" / f"{crate.name}.rlib", crate / "out" / crate.name)
+            for crate in sorted((home / "crates").iterdir())}
+    return [name for name, (library, program) in made.items() if not library.is_dir() and not program.is_file()]
+
+
 def move_back(home: pathlib.Path) -> None:
     """Moves libraries and programs to the crates of the repository, in the place of older ones."""
     for made in (home / "crates").glob("*/out/*"):
@@ -73,7 +80,10 @@ def main() -> None:
         (home / ".git").mkdir()  # so that the copy counts as a repository
         copy_without_tests(home)
         status = subprocess.run(["rt", "ci"], cwd=home).returncode
+        lacking = unmade(home)
         move_back(home)
+    if status == 0 and lacking:
+        sys.exit(f"rt ci passed, but made nothing of {' '.join(lacking)}")
     sys.exit(status)
 
 
