@@ -1,11 +1,11 @@
 #!/usr/bin/env python3
 """Proves all crates from nothing by `rt ci`, but for the unit tests.
 
-`rt ci` also proves unit tests, and each crate that has some a second time: as much work as all the rest. A proof of a
-test says nothing of the programs, so the gate runs tests without proofs (tools/unit_tests.py). Here `rt ci` is run on a
-copy of the repository in which crates that only have tests, or data for them, are missing, and so are the modules below
-`#[cfg(test)]`. What it makes is moved to crates/*/out: libraries and programs. By itself, `rt ci` still proves the
-tests too.
+`rt ci` also proves unit tests, and each crate that has some a second time: more than half as much work as all the rest.
+A proof of a test says nothing of the programs, so the gate runs tests without proofs (tools/unit_tests.py). Here `rt
+ci` is run on a copy of the repository in which crates that only have tests, or data for them, are missing, and so are
+the modules below `#[cfg(test)]`. Before that, the layout of all files is checked, those of tests too. What `rt ci`
+makes is moved to crates/*/out: libraries and programs. By itself, `rt ci` still proves the tests too.
 """
 from __future__ import annotations
 
@@ -18,6 +18,8 @@ import subprocess
 import sys
 import tempfile
 
+from over_sources import KIT
+
 ROOT = pathlib.Path(__file__).resolve().parent.parent
 ONLY_TESTS = re.compile(r"(?:plan_tests_\w+|plan_samples):")
 TESTS = re.compile(r"^#\[cfg\(test\)\]\nmod (\w+);\n", re.MULTILINE)
@@ -29,6 +31,13 @@ def remove(path: pathlib.Path) -> None:
         shutil.rmtree(path)
     else:
         path.unlink(missing_ok=True)
+
+
+def are_laid_out() -> bool:
+    """Checks whether all files of the crates have the layout of `rt fmt`."""
+    files = [str(path) for part in ("src", "specs", "proofs") for ending in ("rt", "antt")
+             for path in sorted(ROOT.glob(f"crates/*/{part}/**/*.{ending}"))]
+    return subprocess.run([str(KIT / "bin" / "rattle"), "fmt", "--check", *files]).returncode == 0
 
 
 def without_tests(crate: pathlib.Path) -> None:
@@ -68,12 +77,14 @@ def move_back(home: pathlib.Path) -> None:
         to = ROOT / "crates" / made.parent.parent.name / "out"
         to.mkdir(exist_ok=True)
         remove(to / made.name)
-        shutil.move(made, to)
+        shutil.move(str(made), str(to / made.name))
 
 
 def main() -> None:
     argparse.ArgumentParser(description=__doc__, formatter_class=argparse.RawDescriptionHelpFormatter).parse_args()
     signal.signal(signal.SIGTERM, lambda *_: sys.exit(143))  # so that the copy is removed
+    if not are_laid_out():
+        sys.exit("run rt fmt in the crates of these files")
     (ROOT / "out").mkdir(exist_ok=True)
     with tempfile.TemporaryDirectory(prefix="proofs-", dir=ROOT / "out") as name:
         home = pathlib.Path(name)

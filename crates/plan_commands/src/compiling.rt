@@ -104,8 +104,8 @@ fn image_with<'a>(
 /// The number of edges from which on a second thread saves more time than its start takes.
 const FEW_EDGES: usize = 500;
 
-/// Compiles like `image_of`, but builds the graph of the manifest and collects its names side by side, unless the
-/// manifest has few edges.
+/// Compiles like `image_of`, and fails as it does, but builds the graph of the manifest and collects its names side by
+/// side, unless the manifest has few edges.
 pub fn image_by<R: Threads + Sync>(
     rt: &R,
     alloc: Global,

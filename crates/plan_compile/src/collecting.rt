@@ -11,6 +11,10 @@ use std::alloc::{AllocError, Global};
 
 /// Collects the texts and the pools of all edges, for `compile_with`. The graph isn't needed, so that it can be built
 /// meanwhile.
+///
+/// # Errors
+///
+/// `AllocError` if memory runs out.
 pub fn collect_names<'a>(alloc: Global, manifest: &'a Manifest) -> Result<EdgeNames<'a>, AllocError>
     requires { length manifest.now.edges ≤ max_edges }
     ensures { IfOk result (AreNames manifest.now.edges) }
