@@ -90,6 +90,7 @@ impl ActiveEdge {
     }
 
     /// Calculates on the stack, and moves to the next place.
+    #[inline(always)]
     pub(crate) fn calculate(&mut self, instr: Instr)
         requires place { self.old.place + 1 < 2 ^ 32 }
         requires plain { IsPlain instr }

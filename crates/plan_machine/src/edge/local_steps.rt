@@ -12,7 +12,7 @@ ghost use Rattle.plan_machine.specs.Turned.{IsMade, IsTurned};
 ghost use Rattle.plan_machine.specs.Working.{IsSimple, Works};
 
 use crate::edge::active_edge::ActiveEdge;
-use crate::edge::stack::Slot;
+use crate::edge::stack::{Slot, Stack};
 use crate::edge::status::{EdgeState, Parked, Status};
 use crate::edge::turns::Turned;
 use crate::run::local_runs::LocalRun;
@@ -165,7 +165,12 @@ impl ActiveEdge {
 impl Parked {
     /// Returns the same edge with an empty stack. Returns None if its next step isn't a local one or memory
     /// runs out.
-    fn wake_for_local_step(self, alloc: Global, view: &CodeView<'_>) -> Option<ActiveEdge>
+    fn wake_for_local_step(
+        self,
+        alloc: Global,
+        view: &CodeView<'_>,
+        spare: &mut Vec<Stack>,
+    ) -> Option<ActiveEdge>
         ensures { IfSome result (λ a. a ≡ parked_local self) }
     {
         match view.instr(self.place) {
@@ -173,7 +178,10 @@ impl Parked {
                 if !is_local_step(instr) {
                     return None;
                 }
-                self.wake(alloc).ok()
+                match Stack::of_spare(alloc, spare) {
+                    Ok(stack) => Some(self.wake(stack)),
+                    Err(_) => None,
+                }
             }
             None => None,
         }
@@ -181,12 +189,12 @@ impl Parked {
 }
 
 impl Status {
-    /// Creates a stack if the edge has none and its next step is a local one, unless memory runs out.
-    fn wake_for_local_step(&mut self, alloc: Global, view: &CodeView<'_>)
+    /// Gives the edge a stack if it has none and its next step is a local one, unless memory runs out.
+    fn wake_for_local_step(&mut self, alloc: Global, view: &CodeView<'_>, spare: &mut Vec<Stack>)
         ensures { self.new ≡ self.old }
     {
         match &self.stage {
-            EdgeState::Parked(parked) => match parked.wake_for_local_step(alloc, view) {
+            EdgeState::Parked(parked) => match parked.wake_for_local_step(alloc, view, spare) {
                 Some(active_edge) => {
                     self.stage = EdgeState::Active(active_edge);
                 }
@@ -222,7 +230,8 @@ impl Status {
         }
     }
 
-    /// Makes local steps of the edge, which has begun and not ended, up to one that asks.
+    /// Makes local steps of the edge, which has begun and not ended, up to one that asks. If it needs a stack, takes
+    /// a spare one.
     pub(crate) fn local_step_on(
         &mut self,
         alloc: Global,
@@ -230,6 +239,7 @@ impl Status {
         edge: u32,
         view: &CodeView<'_>,
         slots: &mut Vec<Slot>,
+        spare: &mut Vec<Stack>,
     ) -> LocalRun
         requires short { length (code image.now edge) < 2 ^ 32 }
         requires view { view.now ≡ code image.now edge }
@@ -237,7 +247,7 @@ impl Status {
         ensures stepped_locally { StandsOtherwise image.now edge result self.old self.new slots.old.items slots.new.items }
         ensures most { result.steps ≤ 64 }
     {
-        self.wake_for_local_step(alloc, view);
+        self.wake_for_local_step(alloc, view, spare);
         self.step_awake(alloc, image, edge, view, slots)
     }
 }

@@ -1,6 +1,6 @@
 //! A stack of values, whose kinds the verifier has checked, and the values of slots.
 
-ghost use Rattle.std.specs.Prelude.{◌≡◌, ◌<◌, ◌≤◌, ◌∷◌, [], IfOk, Some, drop, length, slice_get, None};
+ghost use Rattle.std.specs.Prelude.{◌≡◌, ◌<◌, ◌≤◌, ◌∷◌, [], IfOk, Some, drop, length, slice_get, None, true};
 ghost use Rattle.plan_image.specs.declared.body.Instr.TheVariants as op;
 ghost use Rattle.plan_verify.specs.Turn.{calculate, same_text, On};
 ghost use Rattle.plan_machine.specs.Requests.{HasPathsAt, HasStampAt, HasSweptAt, HasTextAt};
@@ -46,6 +46,23 @@ impl Stack {
         let values = Vec::with_capacity(alloc, 64)?;
         let values = Box::new(alloc, values)?;
         Ok(Stack { values })
+    }
+
+    /// Returns an empty stack: the last of these, if it is empty, or else a new one.
+    pub(crate) fn of_spare(alloc: Global, spare: &mut Vec<Stack>) -> Result<Stack, AllocError>
+        ensures { IfOk result (λ s. s ≡ []) }
+    {
+        match spare.pop() {
+            Some(stack) if stack.is_empty() => Ok(stack),
+            _ => Stack::new(alloc),
+        }
+    }
+
+    /// Returns whether there is no value.
+    fn is_empty(&self) -> bool
+        ensures { result ≡ true → self.now ≡ [] }
+    {
+        self.values.is_empty()
     }
 
     /// Pushes a value, for which there must be room.
@@ -138,6 +155,7 @@ impl Stack {
     }
 
     /// Executes an instruction that calculates without taking memory.
+    #[inline(always)]
     pub(crate) fn calculate(&mut self, instr: Instr)
         requires plain { IsPlain instr }
         requires computes { Computes (calculate instr self.old) }
@@ -232,6 +250,16 @@ impl Stack {
         match self.peek(0) {
             Value::Paths(swept, paths) => (*swept, paths),
             _ => unreachable!(),
+        }
+    }
+
+    /// Returns whether there are paths at the top.
+    pub(crate) fn has_paths(&self) -> bool
+        ensures { HasPathsAt self.now → result ≡ true }
+    {
+        match self.values.as_slice() {
+            [.., Value::Paths(..)] => true,
+            _ => false,
         }
     }
 

@@ -1,6 +1,6 @@
 //! The status of an edge. One that has begun and has no values needs no stack.
 
-ghost use Rattle.std.specs.Prelude.{◌≡◌, ◌<◌, ◌^◌, IfOk, IfSome, IsSome, OnErr, Some, length, option_map};
+ghost use Rattle.std.specs.Prelude.{◌≡◌, ◌<◌, ◌^◌, [], IfOk, IfSome, IsSome, OnErr, Some, length, option_map};
 ghost use Rattle.plan_image.specs.Code.{code};
 ghost use Rattle.plan_verify.specs.Turn.{Local, begun, heard, turn};
 ghost use Rattle.plan_machine.specs.Depfile.{depfile};
@@ -84,6 +84,14 @@ impl Status {
     {
         Status {
             stage: EdgeState::Over(outcome),
+        }
+    }
+
+    /// Returns the stack, if there is one.
+    pub(crate) fn into_stack(self) -> Option<Stack> {
+        match self.stage {
+            EdgeState::Active(active_edge) => Some(active_edge.stack),
+            _ => None,
         }
     }
 
@@ -295,17 +303,17 @@ impl Parked {
     }
 
     /// Returns the same edge with an empty stack.
-    pub(crate) fn wake(self, alloc: Global) -> Result<ActiveEdge, AllocError>
-        ensures { IfOk result (λ a. a ≡ parked_local self) }
+    pub(crate) fn wake(self, stack: Stack) -> ActiveEdge
+        requires { stack ≡ [] }
+        ensures { result ≡ parked_local self }
     {
-        let stack = Stack::new(alloc)?;
-        Ok(ActiveEdge {
+        ActiveEdge {
             place: self.place,
             holding: self.holding,
             ran: self.ran,
             asked: false,
             stack,
-        })
+        }
     }
 
     /// Returns whether its next instruction takes a job token.
@@ -340,7 +348,7 @@ impl Parked {
         ensures ok { IfOk result (λ r. IsTurned r.1 (parked_local self) r.0 slots.old.items slots.new.items (turn image.now edge slots.old.items (parked_local self))) }
         ensures err { OnErr result (slots.new.items ≡ slots.old.items) }
     {
-        let mut active_edge = self.wake(alloc)?;
+        let mut active_edge = self.wake(Stack::new(alloc)?);
         let turned = active_edge.step(alloc, image, edge, slots)?;
         Ok((active_edge, turned))
     }

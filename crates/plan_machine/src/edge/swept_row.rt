@@ -136,6 +136,9 @@ impl ActiveEdge {
         if !self.asked {
             return None;
         }
+        if !self.stack.has_paths() {
+            return None;
+        }
         match image.instr(edge, self.place) {
             Some(Instr::Sweep) => {
                 let (swept, paths) = self.stack.paths_at();

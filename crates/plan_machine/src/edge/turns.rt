@@ -44,6 +44,7 @@ pub(crate) fn copy_slot(slots: &[Slot], slot: u32) -> Result<Option<Value>, Allo
 
 impl ActiveEdge {
     /// Pops the top value and stores it in a slot.
+    #[inline(always)]
     pub(crate) fn store(
         &mut self,
         _image: &Image,
@@ -99,6 +100,7 @@ impl ActiveEdge {
     }
 
     /// Pushes a copy of a slot's value, and moves to the next place.
+    #[inline(always)]
     pub(crate) fn load(&mut self, slots: &[Slot], slot: u32) -> Result<Turned, AllocError>
         requires place { self.old.place + 1 < 2 ^ 32 }
         requires works { Works (loads self.old (slice_get slots.now slot)) }

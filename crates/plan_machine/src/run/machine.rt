@@ -23,7 +23,7 @@ ghost use Rattle.plan_machine.specs.Working.{Works};
 ghost use Rattle.plan_machine.specs.Replaying.{RunsTo};
 ghost use Rattle.plan_machine.specs.LocalRuns.{CanStepLocally, HasRunLocallyOn, moves_of, local_run_events, local_run_marks, steps_of};
 
-use crate::edge::stack::Slot;
+use crate::edge::stack::{Slot, Stack};
 use crate::edge::status::Status;
 use crate::edge::turns::{Heard, Turned, edge_count, has_command};
 use crate::event::reply::Reply;
@@ -35,6 +35,10 @@ use plan_image::{CodeView, Image, Parts};
 use plan_schedule::Phase;
 use std::alloc::{AllocError, Global};
 use std::marker::Model;
+use std::mem::replace;
+
+/// The most stacks that are kept for other edges.
+const MOST_SPARE: usize = 256;
 
 /// A running image: the options that it was opened with, the status of each edge, and the value of each slot.
 #[derive(Drop)]
@@ -42,6 +46,8 @@ pub(crate) struct Machine {
     pub(crate) options: Options,
     pub(crate) edges: Vec<Status>,
     pub(crate) slots: Vec<Slot>,
+    /// Stacks of edges that have ended, for edges that begin.
+    spare: Vec<Stack>,
 }
 
 impl Model for Machine {
@@ -88,6 +94,7 @@ impl Machine {
             options,
             edges: first_statuses(alloc, wanted)?,
             slots: unset_slots(alloc, slots)?,
+            spare: Vec::new(alloc),
         })
     }
 
@@ -202,12 +209,17 @@ impl Machine {
         }
     }
 
-    /// Sets the status of an edge.
+    /// Sets the status of an edge. If the edge had a stack, keeps it for another edge, unless enough are kept.
     fn put(&mut self, edge: u32, status: Status)
         requires { edge < length self.old.now.edges }
         ensures { self.new ≡ record { limits = self.old.limits; now = with_status self.old.now edge status } }
     {
-        self.edges[edge as usize] = status;
+        let before = replace(&mut self.edges[edge as usize], status);
+        if let Some(stack) = before.into_stack() {
+            if self.spare.len() < MOST_SPARE {
+                let _ = self.spare.push(stack);
+            }
+        }
     }
 
     /// Starts an edge if `may` is true.
@@ -422,7 +434,7 @@ impl Machine {
         ensures most { result.steps ≤ 64 }
     {
         let status = &mut self.edges[edge as usize];
-        status.local_step_on(alloc, image, edge, view, &mut self.slots)
+        status.local_step_on(alloc, image, edge, view, &mut self.slots, &mut self.spare)
     }
 
     /// Makes local steps of an edge, up to one that asks. Such steps depend on no other edge.
