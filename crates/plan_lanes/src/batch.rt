@@ -376,6 +376,23 @@ fn bytes_of(alloc: Global, bytes: &[u8]) -> Result<Items<u8>, AllocError>
     Ok(Items::new(Vec::from_slice(alloc, bytes)?))
 }
 
+/// The room for a path that a question has at least, in bytes. Most paths of a build fit into it, so that the next
+/// question of the same edge can use it.
+const PATH_ROOM: usize = 96;
+
+/// Returns a copy of a path in these bytes, which are replaced.
+fn path_in(bytes: Vec<u8>, path: &[u8]) -> Result<Items<u8>, AllocError>
+    ensures { IfOk result (λ items. items ≡ path.now) }
+{
+    let mut bytes = bytes;
+    bytes.clear();
+    if bytes.capacity() < path.len() {
+        bytes.reserve(path.len().max(PATH_ROOM))?;
+    }
+    bytes.extend_from_slice(path)?;
+    Ok(Items::new(bytes))
+}
+
 /// Returns the paths of the files that an edge makes.
 fn paths_of(alloc: Global, outputs: &Outputs<'_>) -> Result<RowList<u8>, AllocError>
     ensures { IfOk result (λ rows. rows ≡ outputs.now) }
@@ -424,14 +441,35 @@ impl OwnedRequest {
     pub(crate) fn of(alloc: Global, request: &Request<'_>) -> Result<OwnedRequest, AllocError>
         ensures { IfOk result (λ asked. shown asked ≡ request_shown request.now) }
     {
+        OwnedRequest::with_room(alloc, Vec::new(alloc), request)
+    }
+
+    /// Returns the bytes of its path, if it only has a path, and otherwise none.
+    pub(crate) fn into_room(self, alloc: Global) -> Vec<u8> {
+        match self {
+            OwnedRequest::Stat(path) | OwnedRequest::Recall(path) | OwnedRequest::Deps(path) => {
+                path.into_vec()
+            }
+            _ => Vec::new(alloc),
+        }
+    }
+
+    /// Returns a copy of a request, with texts of its own. If it only has a path, its copy is in `room`.
+    pub(crate) fn with_room(
+        alloc: Global,
+        room: Vec<u8>,
+        request: &Request<'_>,
+    ) -> Result<OwnedRequest, AllocError>
+        ensures { IfOk result (λ asked. shown asked ≡ request_shown request.now) }
+    {
         match request {
-            Request::Stat(path) => Ok(OwnedRequest::Stat(bytes_of(alloc, path)?)),
-            Request::Recall(output) => Ok(OwnedRequest::Recall(bytes_of(alloc, output)?)),
+            Request::Stat(path) => Ok(OwnedRequest::Stat(path_in(room, path)?)),
+            Request::Recall(output) => Ok(OwnedRequest::Recall(path_in(room, output)?)),
             Request::Run(command, outputs) => Ok(OwnedRequest::Run(
                 bytes_of(alloc, command)?,
                 paths_of(alloc, outputs)?,
             )),
-            Request::Deps(path) => Ok(OwnedRequest::Deps(bytes_of(alloc, path)?)),
+            Request::Deps(path) => Ok(OwnedRequest::Deps(path_in(room, path)?)),
             Request::Keep(output, command, basis, paths) => Ok(OwnedRequest::Keep(
                 bytes_of(alloc, output)?,
                 bytes_of(alloc, command)?,

@@ -224,11 +224,8 @@ impl<'v, W: World, J: RunBrand> SharedRun<'v, W, J> {
         ensures asks { result ≡ true → IsOpen self.new.run edge question.new.number (shown question.new.request) }
         ensures stops { result ≡ false → self.new.stopped ≢ Stopped.No }
     {
-        match self.board.open_question(edge) {
-            Ok(next) => {
-                *question = next;
-                true
-            }
+        match self.board.ask_again(edge, question) {
+            Ok(()) => true,
             Err(_error) => {
                 self.stop(Stopped::Memory);
                 false

@@ -1,6 +1,6 @@
 //! Many events of one edge at once.
 
-ghost use Rattle.std.specs.Prelude.{ℕ, ◌≡◌, ◌≢◌, ◌<◌, ◌≤◌, ◌+◌, [], IfErr, IfOk, IfSome, None, OnErr, Some, false, get_or, length, take, true};
+ghost use Rattle.std.specs.Prelude.{ℕ, ◌≡◌, ◌≢◌, ◌<◌, ◌≤◌, ◌+◌, [], IfErr, IfOk, IfSome, None, OnErr, OnOk, Some, false, get_or, length, take, true};
 ghost use Rattle.plan_verify.specs.Turn.{Stat};
 ghost use Rattle.plan_machine.specs.declared.event.Event.TheVariants.{Reply as Hear};
 ghost use Rattle.plan_machine.specs.declared.event.reply.Reply.TheVariants.{Stamp};
@@ -20,7 +20,9 @@ use crate::printed_run::keep;
 use crate::stamp_row::StampRow;
 use crate::world::World;
 use plan_machine::{Event, LocalRun, Refused, Reply};
+use plan_text::Items;
 use std::alloc::AllocError;
+use std::mem::replace;
 
 /// The number of events of a reply and a local run, at most.
 const ROOM: usize = 66;
@@ -191,8 +193,8 @@ impl<'v, W: World> Board<'v, W> {
         Ok(local_run.asked)
     }
 
-    /// Returns what an edge asks that awaits a reply.
-    fn owned_request_of(&self, edge: u32) -> Result<OwnedRequest, AllocError>
+    /// Returns what an edge asks that awaits a reply. A copy of a path is in `room`.
+    fn owned_request_of(&self, edge: u32, room: Vec<u8>) -> Result<OwnedRequest, AllocError>
         requires { AwaitsReply self.now edge }
         ensures { IfOk result (λ a. asked_at self.now.opened.parts self.now.state edge ≡ Some (shown a)) }
     {
@@ -202,21 +204,33 @@ impl<'v, W: World> Board<'v, W> {
         let Some(request) = self.state.request(self.image, edge) else {
             unreachable!()
         };
-        OwnedRequest::of(self.alloc, &request)
+        OwnedRequest::with_room(self.alloc, room, &request)
     }
 
-    /// Returns the question whose reply an edge awaits.
-    pub(crate) fn open_question(&self, edge: u32) -> Result<Question, AllocError>
+    /// Returns the question whose reply an edge awaits. A copy of a path is in `room`.
+    pub(crate) fn open_question(&self, edge: u32, room: Vec<u8>) -> Result<Question, AllocError>
         requires { AwaitsReply self.now edge }
         ensures { IfOk result (λ q. IsOpen self.now edge q.number (shown q.request)) }
     {
         match self.numbers.get(edge as usize) {
             Some(number) => Ok(Question {
                 number: *number,
-                request: self.owned_request_of(edge)?,
+                request: self.owned_request_of(edge, room)?,
             }),
             None => unreachable!(),
         }
+    }
+
+    /// Replaces a question of an edge by the one whose reply the edge awaits. The new question uses the bytes of the old
+    /// one. If memory runs out, the old question is lost.
+    pub(crate) fn ask_again(&self, edge: u32, question: &mut Question) -> Result<(), AllocError>
+        requires { AwaitsReply self.now edge }
+        ensures { OnOk result (IsOpen self.now edge question.new.number (shown question.new.request)) }
+    {
+        let nothing = OwnedRequest::Stat(Items::empty(self.alloc));
+        let before = replace(&mut question.request, nothing);
+        *question = self.open_question(edge, before.into_room(self.alloc))?;
+        Ok(())
     }
 
     /// Does what can be done next without a reply, like `advance`, but an edge starts before another one takes a job
@@ -272,7 +286,7 @@ impl<'v, W: World> Board<'v, W> {
         ensures permit { IfOk result (λ x. Permits self.now.opened.parts edge (shown x.0.request) x.1) }
         ensures observes { IfOk result (λ x. Observes W.observes self.now (Job edge x.0 x.1)) }
     {
-        let question = self.open_question(edge)?;
+        let question = self.open_question(edge, Vec::new(self.alloc))?;
         let observed = self.observed_for(edge, &question.request)?;
         let permit = permit_for(self.image, edge, &question.request, observed);
         Ok((question, permit))
