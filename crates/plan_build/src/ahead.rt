@@ -9,8 +9,8 @@ use crate::words::manifest_in;
 use plan_lanes::World;
 use plan_options::CommandLine;
 use plan_progress::{Outputs, Stopwatch};
+use plan_record::Entry;
 use plan_stamps::StampCache;
-use plan_text::RowList;
 use plan_world::{OpenFault, RealWorld, SharedFile};
 use std::fs::OpenFile;
 use std::io::{Read, Seek, Write};
@@ -28,11 +28,11 @@ pub trait RecordedWorld {
     /// The record can't be used. The reason is also reported on standard error.
     fn read_ahead(&self) -> Result<(), OpenFault>;
 
-    /// Returns the outputs that the record has entries of. Reads the record first if that wasn't done yet.
+    /// Returns the last entry of each output. Reads the record first if that wasn't done yet.
     ///
     /// # Errors
     /// As for `read_ahead`.
-    fn outputs(&self) -> Result<RowList<u8>, OpenFault>;
+    fn entries(&self) -> Result<Vec<Entry>, OpenFault>;
 }
 
 impl<R: Files + Wait + Eprint + AllocGlobal, S> RecordedWorld for RealWorld<R, S>
@@ -43,8 +43,8 @@ where
         self.read_record()
     }
 
-    fn outputs(&self) -> Result<RowList<u8>, OpenFault> {
-        self.recorded_outputs()
+    fn entries(&self) -> Result<Vec<Entry>, OpenFault> {
+        self.last_entries()
     }
 }
 
@@ -61,8 +61,8 @@ fn look_ahead<R: Threads + Wait + Sync, W: World + RecordedWorld + Send + Sync>(
     if threads == 0 {
         return world.inner().read_ahead();
     }
-    let outputs = world.inner().outputs()?;
-    world.ask_ahead(&outputs, threads, is_over);
+    let entries = world.inner().entries()?;
+    world.ask_ahead(&entries, threads, is_over);
     Ok(())
 }
 

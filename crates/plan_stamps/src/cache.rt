@@ -107,6 +107,11 @@ impl<'a, R, W: World> StampCache<'a, R, W> {
         self.rt
     }
 
+    /// Returns the allocator.
+    pub(crate) fn alloc(&self) -> Global {
+        self.alloc
+    }
+
     /// Checks whether a command has begun.
     pub(crate) fn has_begun(&self) -> bool {
         self.commands.count() > 0

@@ -107,7 +107,7 @@ const RECENT: usize = 16_384;
 const SHORT: u64 = 1_024;
 
 /// Returns the hash of a path.
-fn hash_of(path: &[u8]) -> u64 {
+pub(crate) fn hash_of(path: &[u8]) -> u64 {
     let mut hasher = FoldHasher::default();
     hasher.write(path);
     hasher.finish()

@@ -160,16 +160,15 @@ where
         self.record.lock(&self.rt).is_some()
     }
 
-    /// Returns the outputs that the record has entries of, each once, in the order of their last entries. Reads the
-    /// record first if that wasn't done yet.
+    /// Returns the last entry of each output, in the record's order. Reads the record first if that wasn't done yet.
     ///
     /// # Errors
     /// As for `read_record`, and `Memory`.
-    pub fn recorded_outputs(&self) -> Result<RowList<u8>, OpenFault> {
+    pub fn last_entries(&self) -> Result<Vec<Entry>, OpenFault> {
         self.read_record()?;
         let mut record = self.record.lock(&self.rt);
         let read = self.read_in(&mut record)?;
-        Ok(read.outputs(self.rt.alloc())?)
+        Ok(read.last_entries(self.rt.alloc())?)
     }
 
     /// Returns the record, and reads it first if that wasn't done yet.

@@ -228,31 +228,33 @@ fn long_record(rt: HostRuntime) -> Result<(), Fail> {
     Ok(())
 }
 
-/// Checks that the only output of a long record is `a`, and that the record was read when the outputs are returned.
-fn outputs_are_read<R: Files + Eprint + Wait + AllocGlobal, S>(
+/// Checks that the only output of a long record is `a`, and that the record was read when the entries are returned.
+fn entries_are_read<R: Files + Eprint + Wait + AllocGlobal, S>(
     rt: &impl Abort,
     world: &RealWorld<R, S>,
 ) -> Result<(), Fail>
 where
     R::File: Read + Write + Seek + OpenFile + SharedFile + Drop,
 {
-    let outputs = world.recorded_outputs()?;
-    assert_eq!(rt; outputs.len(), 1);
-    assert_eq!(rt; outputs.row(0), b"a".as_slice());
+    let entries = world.last_entries()?;
+    assert_eq!(rt; entries.len(), 1);
+    for entry in entries.as_slice() {
+        assert_eq!(rt; entry.output(), b"a".as_slice());
+    }
     assert_eq!(rt; world.has_read_record(), true);
     Ok(())
 }
 
-/// Checks that the outputs of a long record are those of its entries, and that the record is read to return them.
+/// Checks that the last entry of each output of a long record is returned, and that the record is read for it.
 #[test]
-fn outputs_of_a_long_record(rt: HostRuntime) -> Result<(), Fail> {
-    let folder = folder(&rt, "outputs_of_a_long_record")?;
+fn entries_of_a_long_record(rt: HostRuntime) -> Result<(), Fail> {
+    let folder = folder(&rt, "entries_of_a_long_record")?;
     let record = format!(in rt.alloc(); "{folder}/record")?;
     write_entries(&rt, record.as_str(), 3_000)?;
     let world = world_in(&rt, folder.as_str())?;
     assert_eq!(rt; world.has_read_record(), false);
-    outputs_are_read(&rt, &world)?;
-    outputs_are_read(&rt, &world)?;
+    entries_are_read(&rt, &world)?;
+    entries_are_read(&rt, &world)?;
     drop(world);
     remove(&rt, folder);
     Ok(())
