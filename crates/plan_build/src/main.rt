@@ -33,6 +33,7 @@ use plan_stamps::StampCache;
 use plan_world::RealWorld;
 use std::alloc::{AllocError, Global};
 use std::io::ErrorKind;
+use std::mem::forget;
 use std::process::ExitCode;
 use std::rt::{Env, Files};
 use std::thread::Threads;
@@ -354,5 +355,7 @@ fn main(rt: HostRuntime) -> ExitCode {
     } else {
         builder.build_line(&line, jobs)
     };
+    // The system frees its memory sooner than this program would.
+    forget(world);
     ExitCode::from(status)
 }

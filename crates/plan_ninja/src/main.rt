@@ -14,6 +14,7 @@ use plan_machine::Options;
 use plan_text::{Counted, Sink};
 use plan_world::{OpenFault, RealWorld, SystemShells};
 use std::alloc::{AllocError, Global};
+use std::mem::forget;
 use std::process::ExitCode;
 use std::rt::Files;
 use std::sync::{Mutex, Wait};
@@ -241,6 +242,8 @@ fn main(rt: HostRuntime) -> ExitCode {
                     || run_image(&rt, &asked, &world, world.screen(), world.parker()),
                 );
                 advise(&rt, asked.image, &done);
+                // The system frees its memory sooner than this program would.
+                forget(world);
                 match read {
                     Ok(()) => done,
                     Err(fault) => Err(record_fault(rt.alloc(), asked.record, fault)),
