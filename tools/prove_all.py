@@ -6,6 +6,10 @@ A proof of a test says nothing of the programs, so the gate runs tests without p
 ci` is run on a copy of the repository in which crates that only have tests, or data for them, are missing, and so are
 the modules below `#[cfg(test)]`. Before that, the layout of all files is checked, those of tests too. What `rt ci`
 makes is moved to crates/*/out: libraries and programs. By itself, `rt ci` still proves the tests too.
+
+If crates are named, only they and the crates below them are proved, as the sources are when it starts. Nothing is moved
+then, but `rt ci` keeps what passes, so the gate doesn't prove it again. Use it to prove lower crates while you change
+the upper ones.
 """
 from __future__ import annotations
 
@@ -81,7 +85,9 @@ def move_back(home: pathlib.Path) -> None:
 
 
 def main() -> None:
-    argparse.ArgumentParser(description=__doc__, formatter_class=argparse.RawDescriptionHelpFormatter).parse_args()
+    parser = argparse.ArgumentParser(description=__doc__, formatter_class=argparse.RawDescriptionHelpFormatter)
+    parser.add_argument("crates", metavar="CRATE", nargs="*")
+    crates = parser.parse_args().crates
     signal.signal(signal.SIGTERM, lambda *_: sys.exit(143))  # so that the copy is removed
     if not are_laid_out():
         sys.exit("run rt fmt in the crates of these files")
@@ -90,7 +96,9 @@ def main() -> None:
         home = pathlib.Path(name)
         (home / ".git").mkdir()  # so that the copy counts as a repository
         copy_without_tests(home)
-        status = subprocess.run(["rt", "ci"], cwd=home).returncode
+        status = subprocess.run(["rt", "ci", *crates], cwd=home).returncode
+        if crates:
+            sys.exit(status)
         lacking = unmade(home)
         move_back(home)
     if status == 0 and lacking:
