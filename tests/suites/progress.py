@@ -192,6 +192,15 @@ def lost_outputs_are_dropped(builder: str, folder: pathlib.Path) -> None:
     check(size < 80_000_000, f"the builder took {size} bytes")
 
 
+def ended_edges_take_little(builder: str, folder: pathlib.Path) -> None:
+    """A first build of 10,000 edges takes less than 18 MB: an edge that has ended has no stack, which is 1 KB."""
+    statements = "".join(f"build out{number}: t\n" for number in range(10_000))
+    programs.write({"build.ninja": f"rule t\n  command = : > $out\n{statements}"}, folder)
+    status, size = greatest_size([builder, "-j", "4"], folder, 0, False)
+    expect("status", 0, status)
+    check(size < 18_000_000, f"the builder took {size} bytes")
+
+
 # ---- texts, word for word
 
 class Text(NamedTuple):
@@ -630,6 +639,6 @@ def cases(setting: Setting) -> Iterator[Case]:
         failures_side_by_side, while_the_console_is_used, manifest_made_again, large, failure_among_many,
         clean_after_a_restat, missing_with_others, numbers_side_by_side, missing_source_has_started,
         times, time_left, rate_of_the_last, only_command_on_terminal, numbers_on_terminal, failed_in_red,
-        label_before_a_console_command, outputs_are_limited, lost_outputs_are_dropped)
+        label_before_a_console_command, outputs_are_limited, lost_outputs_are_dropped, ended_edges_take_little)
     for trial in trials:
         yield Case(trial.__name__.replace("_", " "), functools.partial(trial, builder))
