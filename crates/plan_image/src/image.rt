@@ -256,6 +256,7 @@ impl Image {
     /// Returns the instruction at a place of an edge's code. Returns None if there is no such instruction. The
     /// operands of the edge are read only if the instruction is an open one of a body. To read several
     /// instructions of one edge, use `edge_code`.
+    #[inline(always)]
     pub fn instr(&self, edge: u32, place: u32) -> Option<Instr>
         ensures { result ≡ slice_get (code self.now edge) place }
     {
@@ -269,6 +270,7 @@ impl Image {
     }
 
     /// Returns the instruction at a place of an edge that shares this body.
+    #[inline(always)]
     fn shared_instr(&self, edge: u32, body: u32, place: u32) -> Option<Instr>
         requires { shared_body (code_at self.now.edges edge) ≡ Some body }
         ensures { result ≡ slice_get (code self.now edge) place }
