@@ -37,7 +37,7 @@ FOREIGN: dict[str, set[str]] = {
     "rules/manifest.md": {"ninja_required_version"},  # ninja's own variable
     "using/refusals.md": {"ninja_required_version"},
     "developing/decisions.md": {"ninja_required_version"},
-    "developing/proofs/patterns.md": {"into_iter_items", "with_x"},  # the kit's, and a form's placeholder
+    "developing/proofs/patterns.md": {"with_x"},  # a form's placeholder
     "developing/proofs/refused-forms.md": {"at_exit"},
 }
 

@@ -79,7 +79,8 @@ fn graph_and_names<'a, R: Threads + Sync>(
 }
 
 /// Compiles like `image_of`, given the graph of the manifest and its names.
-fn image_with<'a>(
+fn image_with<'a, R: Threads + Sync>(
+    rt: &R,
     alloc: Global,
     manifest: &'a Manifest,
     graph: Graph<'a>,
@@ -95,7 +96,7 @@ fn image_with<'a>(
 {
     manifests_are_sound();
     image_is_shaped();
-    match compile_with(alloc, manifest, &graph, names, rule) {
+    match compile_with(rt, alloc, manifest, &graph, names, rule) {
         Ok(image) => Ok(image),
         Err(cause) => Err(printed_compile_fault(alloc, cause)),
     }
@@ -125,7 +126,7 @@ pub fn image_by<R: Threads + Sync>(
     }
     let (graph, names) = graph_and_names(rt, alloc, manifest);
     match graph {
-        Ok(graph) => image_with(alloc, manifest, graph, names, rule),
+        Ok(graph) => image_with(rt, alloc, manifest, graph, names, rule),
         Err(fault) => Err(fault),
     }
 }

@@ -1,7 +1,6 @@
 -- The layout of an edge with a command means the facts of the manifest's edge.
-use Rattle.std.proofs.Common.{◌≡◌, ℕ, zero, suc, ◌+◌, Bool, true, false, List, [], ◌∷◌, map, Option, Some, refl, sym, ap, subst, ◌∙◌, arith}
+use Rattle.std.proofs.Common.{◌≡◌, ℕ, zero, suc, ◌+◌, false, List, [], ◌∷◌, map, Some, refl, sym, ap, subst, ◌∙◌, arith}
 use Rattle.std.specs.Prelude.{◌&&◌, slice_get}
-use Rattle.plan_image.specs.declared.image.Parts.{Parts}
 use Rattle.plan_verify.specs.Turn.{Slots}
 use Rattle.plan_compile.specs.declared.layout.Output.{Output}
 use Rattle.plan_compile.specs.declared.layout.CommandLayout.{CommandLayout}
@@ -14,7 +13,7 @@ use Rattle.plan_compile.specs.Faithful.{IsEdge}
 use Rattle.plan_compile.specs.Images.{command_layout, layout_by, layout_of, layouts_from, image_of}
 use Rattle.plan_compile.specs.Means.{command_of, AreGiven}
 use Rattle.plan_compile.specs.Names.{Text, all_texts}
-use Rattle.plan_compile.specs.Rule.{Given, Command}
+use Rattle.plan_compile.specs.Rule.{Given}
 use Rattle.plan_compile.specs.Slots.{form_of, has_none, own_len, base, all_made}
 use Rattle.plan_compile.specs.Told.{told, facts, LayoutsAreFacts}
 use Rattle.plan_compile.proofs.LayoutLemmas.{one_flag_is, own_flags_is}

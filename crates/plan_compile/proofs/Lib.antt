@@ -36,6 +36,7 @@ mod AscendLemmas
 mod LookupLemmas
 mod BodyTableLemmas
 mod AssembleLemmas
+mod HalvesLemmas
 mod RefusalLemmas
 mod SpellingLemmas
 mod NameLemmas

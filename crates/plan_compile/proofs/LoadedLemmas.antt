@@ -1,7 +1,6 @@
 -- The code of a command edge loads the slots of its named inputs. Serves src/image_laws.rt.
-use Rattle.std.proofs.Common.{◌≡◌, ℕ, Bool, true, false, List, [], ◌∷◌, ◌++◌, length, refl, sym, ap, subst, ◌∙◌, Some, ◌+◌, zero}
-use Rattle.std.specs.Prelude.{◌||◌, ◌==◌, not, slice_get}
-use Rattle.std.specs.List.{list_any}
+use Rattle.std.proofs.Common.{◌≡◌, ℕ, Bool, true, false, List, [], ◌∷◌, ◌++◌, length, refl, sym, ap, subst, ◌∙◌, ◌+◌, zero}
+use Rattle.std.specs.Prelude.{◌||◌, ◌==◌, not}
 use Rattle.std.proofs.lemmas.Bool.{eq-eqb}
 use Rattle.plan_image.specs.declared.body.Instr.{Instr}
 use Rattle.plan_image.specs.declared.body.Instr.TheVariants as op
@@ -15,11 +14,9 @@ use Rattle.plan_compile.specs.declared.layout.EdgeLayout.TheVariants as layout
 use Rattle.plan_compile.specs.declared.layout.Input.{Input}
 use Rattle.plan_compile.specs.declared.layout.Input.TheVariants.{File, Made}
 use Rattle.plan_compile.specs.declared.layout.Output.{Output}
-use Rattle.plan_compile.specs.Emit.{code_of, or_code, any_code, newer_code, newest_code, input_code, order_code, stat_code, oldest_code, rerun_flag_code, has_source_file, compares_basis, before_sweep_code, front, same_code, under_code, ready_code, ready_len, skip_code, age_test_code, same_command_code, dirty_place, other_code, same_place, compare_code, known_place, pass_code, from_entry_code, command_code}
-use Rattle.plan_compile.specs.Builds.{Build, Builds}
-use Rattle.plan_compile.specs.Faithful.{IsEdge, IsSound}
+use Rattle.plan_compile.specs.Emit.{code_of, or_code, any_code, newer_code, newest_code, order_code, stat_code, oldest_code, rerun_flag_code, has_source_file, compares_basis, before_sweep_code, front, same_code, under_code, ready_code, ready_len, skip_code, age_test_code, same_command_code, dirty_place, other_code, same_place, known_place, pass_code, from_entry_code, command_code}
 use Rattle.plan_compile.specs.Images.{image_of, layout_of}
-use Rattle.plan_compile.specs.Means.{flags_of, HaveFlags, IsCommand, IsLaidOut}
+use Rattle.plan_compile.specs.Means.{flags_of, HaveFlags, IsLaidOut}
 use Rattle.plan_compile.specs.Names.{all_texts}
 use Rattle.plan_compile.specs.Slots.{all_made, base}
 use Rattle.plan_compile.specs.Loaded.{is_load, loads, AreLoaded, InputsAreLoaded}

@@ -1,5 +1,5 @@
 -- An item's number leads to it, and no item is repeated.
-use Rattle.std.proofs.Common.{◌≡◌, ℕ, zero, suc, Bool, true, false, List, [], ◌∷◌, ◌++◌, Some, refl, sym, ap, subst, ◌∙◌}
+use Rattle.std.proofs.Common.{◌≡◌, ℕ, zero, suc, Bool, true, false, List, [], ◌∷◌, ◌++◌, map, Some, refl, sym, ap, subst, ◌∙◌}
 use Rattle.std.specs.Prelude.{◌||◌, slice_get, if◌then◌else◌, bytes_eq}
 use Rattle.std.proofs.lemmas.Slice.Eq.{bytes_eq-Decides}
 use Rattle.plan_compile.specs.Numbering.{has, with_item, with_items, once, number}
@@ -94,3 +94,33 @@ module _ {A : Type 0} (same : A → A → Bool) (decides : Decides same) where
 
   pub number_put : (xs : List A) (x : A) → number same x xs ≡ number same x (with_item same xs x)
   number_put xs x = elim (has same xs x) as (λ b. number same x xs ≡ number same x (if b then xs else xs ++ x ∷ [])) [ true ↦ refl | false ↦ sym (number_last xs x) ]
+
+  -- ---- items without repetitions
+
+  -- an item that is there changes nothing
+  item_there : (xs : List A) (y : A) → has same xs y ≡ true → xs ≡ with_item same xs y
+  item_there xs y h = ap (λ (b : Bool). if b then xs else xs ++ y ∷ []) (sym h)
+
+  -- items, and one more after them
+  items_item : (xs ys : List A) (y : A) → with_items same xs (with_item same ys y) ≡ with_item same (with_items same xs ys) y
+  items_item xs ys y =
+      elim (has same ys y) as (λ b. has same ys y ≡ b → with_items same xs (if b then ys else ys ++ y ∷ []) ≡ with_item same (with_items same xs ys) y) [
+        | true ↦ λ h. item_there (with_items same xs ys) y (items_have xs ys (number same y ys) y (leads y ys h))
+        | false ↦ λ h. items_join xs ys (y ∷ [])
+      ] refl
+
+  -- items without repetitions are added as the items themselves
+  items_again : (xs ys zs : List A) → with_items same xs (with_items same ys zs) ≡ with_items same (with_items same xs ys) zs
+  items_again xs ys [] = refl
+  items_again xs ys (z ∷ zs) = items_again xs (with_item same ys z) zs ∙ ap (λ (us : List A). with_items same us zs) (items_item xs ys z)
+
+  pub items_once : (xs ys : List A) → with_items same xs (once same ys) ≡ with_items same xs ys
+  items_once xs ys = items_again xs [] ys
+
+  -- items keep their numbers when more are added
+  pub numbers_stay : (xs ys : List A) → Keeps xs ys → (zs : List A) → ((k : ℕ) (z : A) → slice_get zs k ≡ Some z → has same xs z ≡ true)
+      → map (λ z. number same z xs) zs ≡ map (λ z. number same z ys) zs
+  numbers_stay xs ys kept [] there = refl
+  numbers_stay xs ys kept (z ∷ zs) there =
+      ap (λ (n : ℕ). n ∷ map (λ y. number same y xs) zs) (sym (kept z (there zero z refl)).stays)
+      ∙ ap (λ (ns : List ℕ). number same z ys ∷ ns) (numbers_stay xs ys kept zs (λ k y h. there (suc k) y h))

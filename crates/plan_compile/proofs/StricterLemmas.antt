@@ -1,13 +1,12 @@
 -- The stricter out-of-date rule compared with the specified one.
-use Rattle.std.proofs.Common.{◌≡◌, ℕ, ◌<◌, ◌≤◌, Bool, true, false, List, [], ◌∷◌, ◌++◌, Option, Some, None, refl, sym, ap, ◌∙◌, arith}
-use Rattle.std.specs.Prelude.{◌||◌, ◌&&◌, not, nat_le, nat_lt, if◌then◌else◌, ◌==◌}
+use Rattle.std.proofs.Common.{◌≡◌, ℕ, ◌<◌, ◌≤◌, Bool, true, false, List, [], ◌∷◌, ◌++◌, Option, Some, None, refl, ap, ◌∙◌, arith}
+use Rattle.std.specs.Prelude.{◌||◌, ◌&&◌, not, nat_le, nat_lt, if◌then◌else◌}
 use Rattle.std.proofs.lemmas.Bool.{eq-eqb, leb-false, leb-true, le-ltb, lt-ltb, ltb-true}
 use Rattle.plan_verify.specs.Turn.{earlier, same_text}
 use Rattle.plan_compile.specs.declared.baseline.Baseline.{Baseline}
 use Rattle.plan_compile.specs.declared.baseline.Baseline.TheVariants.{Outputs, Basis, OutputsAndBasis}
-use Rattle.plan_compile.specs.declared.baseline.OutOfDateRule.{OutOfDateRule}
 use Rattle.plan_compile.specs.declared.baseline.OutOfDateRule.TheVariants.{Specified, Stricter}
-use Rattle.plan_compile.specs.Rule.{Command, Recorded, baseline, baseline_by, greatest, least, some_missing, some_changed, is_new}
+use Rattle.plan_compile.specs.Rule.{Recorded, baseline, baseline_by, greatest, least, some_missing, some_changed, is_new}
 use Rattle.plan_compile.specs.Stricter.{StricterIsNoLaxer, ChangesAreSeen, UnchangedIsClean}
 
 -- ---- the earlier of two stamps

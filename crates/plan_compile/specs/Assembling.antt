@@ -1,5 +1,5 @@
 -- An edge by its numbers, as the code builds it from the table of outputs.
-use Rattle.std.specs.Prelude.{ℕ, zero, List, [], ◌∷◌}
+use Rattle.std.specs.Prelude.{◌≡◌, ◌≤◌, ℕ, zero, List, [], ◌∷◌, length, Result, Ok, Err}
 use Rattle.plan_compile.specs.declared.layout.Output.{Output}
 use Rattle.plan_compile.specs.declared.layout.CommandLayout.{CommandLayout}
 use Rattle.plan_compile.specs.declared.layout.GatherLayout.{GatherLayout}
@@ -13,8 +13,10 @@ use Rattle.plan_compile.specs.Emit.{code_of}
 use Rattle.plan_image.specs.declared.image.EdgeCode.{EdgeCode}
 use Rattle.plan_image.specs.declared.image.Edge.{Edge}
 use Rattle.plan_compile.specs.BodyKeys.{Body}
-use Rattle.plan_compile.specs.Images.{is_blank, shared, sort_of}
+use Rattle.plan_compile.specs.Images.{is_blank, shared, sort_of, used_bodies}
 use Rattle.plan_compile.specs.declared.numbers.Numbers.{Numbers}
+use Rattle.plan_compile.specs.declared.fault.CompileFault.{CompileFault}
+use Rattle.plan_compile.specs.Refusals.{RefusesCodes}
 use Rattle.plan_compile.specs.OutputTable.{Table, inputs_in, outputs_in, sources_in}
 use Rattle.plan_compile.specs.Slots.{flags_once, form_of}
 
@@ -78,3 +80,8 @@ edge_in numbers code x = record {
 abbrev pub edges_in : List Body → List Numbers → List (List Instr) → List Build → List Edge
 edges_in bodies (k ∷ ks) (is ∷ others) (x ∷ xs) = edge_in k (shared bodies is) x ∷ edges_in bodies ks others xs
 edges_in bodies _ _ _ = []
+
+-- the edges with these codes and the bodies that they share, or why there are none
+abbrev pub AreCoded : List Numbers → List (List Instr) → List Build → Result (List Edge × List Body) CompileFault → Type 0
+AreCoded numbers codes xs (Ok r) = (r.1 ≡ used_bodies codes) × (r.0 ≡ edges_in (used_bodies codes) numbers codes xs) × (length r.1 ≤ length xs)
+AreCoded numbers codes xs (Err fault) = RefusesCodes fault codes

@@ -15,6 +15,7 @@ pub mod Collected
 pub mod Images
 pub mod Faithful
 pub mod OutputTable
+pub mod Renumbering
 pub mod Assembling
 pub mod Told
 pub mod Loaded

@@ -41,11 +41,11 @@ impl Model for Bodies {
 }
 
 impl Bodies {
-    ghost use Rattle.std.specs.Prelude.{◌≡◌, ◌≤◌, ◌+◌, [], IfOk, IfSome, length, OnOk, slice_get, Some};
+    ghost use Rattle.std.specs.Prelude.{◌≡◌, ◌≤◌, ◌+◌, [], IfOk, IfSome, length, map, OnOk, slice_get, Some};
     ghost use Rattle.plan_image.specs.Bodies.{body_of};
     ghost use Rattle.plan_graph.specs.Graph.{max_edges};
     ghost use Rattle.plan_compile.specs.BodyKeys.{same_body};
-    ghost use Rattle.plan_compile.specs.Numbering.{number, with_item};
+    ghost use Rattle.plan_compile.specs.Numbering.{number, with_item, with_items};
 
     /// Creates an empty list of bodies.
     pub(crate) fn new(alloc: Global) -> Self
@@ -93,6 +93,16 @@ impl Bodies {
             Some(number) => Ok(number),
             None => self.put_other(alloc, code),
         }
+    }
+
+    /// Appends other bodies unless they are in the list. Returns their numbers, in their order.
+    pub(crate) fn put_all(&mut self, alloc: Global, others: Bodies) -> Result<Vec<u32>, Memory>
+        requires { length self.old + length others ≤ max_edges }
+        ensures bodies { OnOk result (self.new ≡ with_items same_body self.old others) }
+        ensures numbers { IfOk result (λ ns. ns.items ≡ map (λ b. number same_body b self.new) others) }
+        ensures few { OnOk result (length self.new ≤ length self.old + length others) }
+    {
+        self.table.put_all(alloc, others.table)
     }
 
     /// Returns the bodies in their order.

@@ -45,11 +45,11 @@ impl Model for BodyTable {
 }
 
 impl BodyTable {
-    ghost use Rattle.std.specs.Prelude.{◌≡◌, ◌↔◌, ◌≤◌, ◌+◌, [], IfOk, IsTrue, length, OnOk, slice_get, Some};
+    ghost use Rattle.std.specs.Prelude.{◌≡◌, ◌↔◌, ◌≤◌, ◌+◌, [], IfOk, IsTrue, length, map, OnOk, slice_get, Some};
     ghost use Rattle.plan_image.specs.Bodies.{body_of};
     ghost use Rattle.plan_graph.specs.Graph.{max_edges};
-    ghost use Rattle.plan_compile.specs.BodyKeys.{same_body};
-    ghost use Rattle.plan_compile.specs.Numbering.{number, with_item};
+    ghost use Rattle.plan_compile.specs.BodyKeys.{key_of, same_body};
+    ghost use Rattle.plan_compile.specs.Numbering.{number, with_item, with_items};
 
     /// Creates an empty table.
     pub(crate) fn new(alloc: Global) -> Self
@@ -72,6 +72,23 @@ impl BodyTable {
         }
     }
 
+    /// Appends a body with this key unless it is in the table, and returns its number.
+    fn put_body(&mut self, key: Vec<u64>, body: Body) -> Result<u32, Memory>
+        requires key { key.items ≡ key_of body }
+        requires few { length self.old ≤ max_edges }
+        ensures bodies { OnOk result (self.new ≡ with_item same_body self.old body) }
+        ensures number { IfOk result (λ n. n ≡ number same_body body self.new) }
+        ensures few { OnOk result (length self.new ≤ length self.old + 1) }
+    {
+        self.bodies.reserve(1)?;
+        let (place, is_new) = self.keys.insert_full(key)?;
+        if is_new {
+            self.bodies.push(body)?;
+            return Ok(word(place));
+        }
+        Ok(word(place))
+    }
+
     /// Appends the body of a code unless it is in the table, and returns its number.
     pub(crate) fn put(&mut self, alloc: Global, code: &Code) -> Result<u32, Memory>
         requires { length self.old ≤ max_edges }
@@ -81,13 +98,40 @@ impl BodyTable {
     {
         let key = copy_key(alloc, code.key())?;
         let body = code.body(alloc)?;
-        self.bodies.reserve(1)?;
-        let (place, is_new) = self.keys.insert_full(key)?;
-        if is_new {
-            self.bodies.push(body)?;
-            return Ok(word(place));
+        self.put_body(key, body)
+    }
+
+    /// Appends bodies with these keys unless they are in the table. Returns their numbers, in their order.
+    fn put_bodies(
+        &mut self,
+        alloc: Global,
+        keys: &[Vec<u64>],
+        bodies: Vec<Body>,
+    ) -> Result<Vec<u32>, Memory>
+        requires keys { map (λ k. k.items) keys.now ≡ map key_of bodies.items }
+        requires few { length self.old + length bodies.items ≤ max_edges }
+        ensures bodies { OnOk result (self.new ≡ with_items same_body self.old bodies.items) }
+        ensures numbers { IfOk result (λ ns. ns.items ≡ map (λ b. number same_body b self.new) bodies.items) }
+        ensures few { OnOk result (length self.new ≤ length self.old + length bodies.items) }
+    {
+        let mut numbers = Vec::with_capacity(alloc, bodies.len())?;
+        for body in bodies {
+            let key = copy_key(alloc, keys[numbers.len()].as_slice())?;
+            let number = self.put_body(key, body)?;
+            numbers.push(number)?;
         }
-        Ok(word(place))
+        Ok(numbers)
+    }
+
+    /// Appends the bodies of another table unless they are in this one. Returns their numbers, in their order.
+    pub(crate) fn put_all(&mut self, alloc: Global, others: BodyTable) -> Result<Vec<u32>, Memory>
+        requires { length self.old + length others ≤ max_edges }
+        ensures bodies { OnOk result (self.new ≡ with_items same_body self.old others) }
+        ensures numbers { IfOk result (λ ns. ns.items ≡ map (λ b. number same_body b self.new) others) }
+        ensures few { OnOk result (length self.new ≤ length self.old + length others) }
+    {
+        let BodyTable { keys, bodies } = others;
+        self.put_bodies(alloc, keys.as_slice(), bodies)
     }
 
     /// Returns the bodies in their order.

@@ -20,8 +20,8 @@ use crate::bodies::Bodies;
 use crate::build::{Build, builds, words};
 use crate::collecting::collect_names;
 use crate::edge_names::EdgeNames;
-use crate::edges::edges_of;
 use crate::fault::CompileFault;
+use crate::generator::{Generator, InOrder, SideBySide};
 use crate::image_laws::{image_is_spelled, manifests_are_sound};
 use crate::names::pool_table;
 use crate::slots::{plan_slots, slot_count};
@@ -30,6 +30,7 @@ use plan_image::{Edges, Image, MAX_FILES, MAX_POOLS, Parts, Pool, Slot};
 use plan_scope::Manifest;
 use plan_text::{Items, RowList};
 use std::alloc::{AllocError, Global};
+use std::thread::Threads;
 
 /// Appends the path of file `number`.
 fn push_path<'a>(rows: &mut RowList<u8>, files: &Files<'a>, number: usize) -> Result<(), AllocError>
@@ -92,7 +93,13 @@ struct Coded {
 }
 
 /// Generates the codes of these edges, given the number of files.
-fn code_all<'a>(alloc: Global, files: usize, named: &Named<'a>) -> Result<Coded, CompileFault>
+fn code_all<'a, G: Generator>(
+    alloc: Global,
+    generator: &G,
+    files: usize,
+    named: &Named<'a>,
+) -> Result<Coded, CompileFault>
+    requires ready { G.ready }
     requires named { length named.now.names.numbers.items ≡ length named.now.builds.items }
     requires few { length named.now.builds.items ≤ max_edges }
     ensures slots { IfOk result (λ c. c.slots.items ≡ slots_from zero named.now.builds.items) }
@@ -108,7 +115,13 @@ fn code_all<'a>(alloc: Global, files: usize, named: &Named<'a>) -> Result<Coded,
         return Err(CompileFault::Limit);
     };
     let plan = plan_slots(alloc, files, count, &named.builds)?;
-    let (edges, bodies) = edges_of(alloc, &plan, &named.names.numbers, &named.builds)?;
+    let (edges, bodies) = generator.edges(
+        alloc,
+        &plan.table,
+        &plan.newest,
+        &named.names.numbers,
+        &named.builds,
+    )?;
     Ok(Coded {
         slots: plan.slots,
         bodies,
@@ -166,13 +179,15 @@ fn assemble(tables: Tables, coded: Coded) -> Parts
 }
 
 /// Returns the tables of the image.
-fn parts<'a, 'b>(
+fn parts<'a, 'b, G: Generator>(
     alloc: Global,
+    generator: &G,
     manifest: &'a Manifest,
     graph: &'a Graph<'b>,
     names: Result<EdgeNames<'a>, AllocError>,
     rule: OutOfDateRule,
 ) -> Result<Parts, CompileFault>
+    requires ready { G.ready }
     requires sound { IsSound manifest.now }
     requires graph { IsGraph manifest.now graph.now }
     requires names { IfOk names (AreNames manifest.now.edges) }
@@ -187,18 +202,43 @@ fn parts<'a, 'b>(
     if named.names.pools.len() > MAX_POOLS {
         return Err(CompileFault::Limit);
     }
-    let coded = code_all(alloc, graph.files.len(), &named)?;
+    let coded = code_all(alloc, generator, graph.files.len(), &named)?;
     let tables = tables_of(alloc, manifest, graph, &named.names)?;
     Ok(assemble(tables, coded))
 }
 
+/// Compiles a manifest, given its names, with this generator of codes.
+fn image_of<'a, 'b, G: Generator>(
+    alloc: Global,
+    generator: &G,
+    manifest: &'a Manifest,
+    graph: &'a Graph<'b>,
+    names: Result<EdgeNames<'a>, AllocError>,
+    rule: OutOfDateRule,
+) -> Result<Image, CompileFault>
+    requires ready { G.ready }
+    requires sound { IsSound manifest.now }
+    requires graph { IsGraph manifest.now graph.now }
+    requires names { IfOk names (AreNames manifest.now.edges) }
+    ensures image { IfOk result (λ image. image ≡ compiled rule manifest.now graph.now) }
+    ensures refused { IfErr result (λ fault. IsRefused rule manifest.now graph.now fault) }
+{
+    image_is_spelled();
+    let parts = parts(alloc, generator, manifest, graph, names, rule)?;
+    match Image::new(parts) {
+        Ok(image) => Ok(image),
+        Err(_refused) => Err(CompileFault::Limit),
+    }
+}
+
 /// Compiles like `compile`, given the names that `collect_names` returned for the manifest. If it ran out of memory, so
-/// does this call.
+/// does this call. If there are many edges, four threads generate their codes, as far as threads can be started.
 ///
 /// # Errors
 ///
 /// As in `compile`.
-pub fn compile_with<'a, 'b>(
+pub fn compile_with<'a, 'b, R: Threads + Sync>(
+    rt: &R,
     alloc: Global,
     manifest: &'a Manifest,
     graph: &'a Graph<'b>,
@@ -211,12 +251,8 @@ pub fn compile_with<'a, 'b>(
     ensures image { IfOk result (λ image. image ≡ compiled rule manifest.now graph.now) }
     ensures refused { IfErr result (λ fault. IsRefused rule manifest.now graph.now fault) }
 {
-    image_is_spelled();
-    let parts = parts(alloc, manifest, graph, names, rule)?;
-    match Image::new(parts) {
-        Ok(image) => Ok(image),
-        Err(_refused) => Err(CompileFault::Limit),
-    }
+    let generator = SideBySide { rt };
+    image_of(alloc, &generator, manifest, graph, names, rule)
 }
 
 /// Compiles a manifest with its graph to an image of version 2, for an out-of-date rule. The edges have the
@@ -239,5 +275,5 @@ pub fn compile<'a>(
     ensures refused { IfErr result (λ fault. IsRefused rule manifest.now graph.now fault) }
 {
     let names = collect_names(alloc, manifest);
-    compile_with(alloc, manifest, graph, names, rule)
+    image_of(alloc, &InOrder, manifest, graph, names, rule)
 }

@@ -1,27 +1,27 @@
 //! The edges of an image, and the bodies that they share.
 
-ghost use Rattle.std.specs.Prelude.{◌≡◌, ◌<◌, ◌≤◌, ◌+◌, ◌++◌, ◌∷◌, [], IfErr, IfOk, length, OnOk, Some, slice_get};
+ghost use Rattle.std.specs.Prelude.{◌≡◌, ◌≤◌, ◌<◌, ◌+◌, ◌++◌, ◌∷◌, [], length, map, OnOk, Some, slice_get};
 ghost use Rattle.plan_image.specs.Bodies.{body_of};
 ghost use Rattle.plan_image.specs.Columns.{lent};
 ghost use Rattle.plan_image.specs.declared.image.EdgeCode.TheVariants.{Shared};
 ghost use Rattle.plan_graph.specs.Graph.{max_edges};
-ghost use Rattle.plan_compile.specs.Assembling.{codes_in, edge_in, edges_in};
+ghost use Rattle.plan_compile.specs.Assembling.{AreCoded, codes_in, edge_in};
 ghost use Rattle.plan_compile.specs.BodyKeys.{same_body};
-ghost use Rattle.plan_compile.specs.Images.{shared, sort_of, used_bodies};
+ghost use Rattle.plan_compile.specs.Images.{shared, sort_of};
 ghost use Rattle.plan_compile.specs.Numbering.{with_item};
-ghost use Rattle.plan_compile.specs.Refusals.{RefusesCodes};
+ghost use Rattle.plan_compile.specs.Renumbering.{renumbered};
 
 use crate::bodies::Bodies;
 use crate::build::Build;
 use crate::code::Code;
 use crate::edge_layout::put_code;
 use crate::fault::CompileFault;
+use crate::layout::Output;
 use crate::lists::Lists;
 use crate::numbers::Numbers;
-use crate::slots::Plan;
 use plan_image::{CodeRef, EdgeRef, Edges, Sort};
 use plan_text::Memory;
-use std::alloc::Global;
+use std::alloc::{AllocError, Global};
 
 /// Returns the sort of an edge.
 fn sort_of(phony: bool) -> Sort
@@ -77,20 +77,27 @@ pub(crate) fn numbers_at(numbers: &[Numbers], number: usize) -> Numbers
     numbers[number]
 }
 
-/// Returns the edges and their bodies. Fails if a code has more places than a body may have.
+/// Returns the slot of the newest input of edge `number`.
+fn slot_at(newest: &[u32], number: usize) -> u32
+    requires { number < length newest.now }
+    ensures { slice_get newest.now number ≡ Some result }
+{
+    newest[number]
+}
+
+/// Generates the codes of these edges one after another. `newest` has the slot of each edge's newest input. Returns the
+/// edges and their bodies. Fails if a code has more places than a body may have.
 pub(crate) fn edges_of<'a>(
     alloc: Global,
-    plan: &Plan,
+    table: &[Option<Output>],
+    newest: &[u32],
     numbers: &[Numbers],
     builds: &[Build<'a>],
 ) -> Result<(Edges, Bodies), CompileFault>
-    requires long { length plan.now.newest.items ≡ length builds.now }
+    requires long { length newest.now ≡ length builds.now }
     requires named { length numbers.now ≡ length builds.now }
     requires few { length builds.now ≤ max_edges }
-    ensures bodies { IfOk result (λ r. r.1 ≡ used_bodies (codes_in plan.now.table.items numbers.now plan.now.newest.items builds.now)) }
-    ensures edges { let codes = codes_in plan.now.table.items numbers.now plan.now.newest.items builds.now in
-        IfOk result (λ r. r.0 ≡ edges_in (used_bodies codes) numbers.now codes builds.now) }
-    ensures refused { IfErr result (λ fault. RefusesCodes fault (codes_in plan.now.table.items numbers.now plan.now.newest.items builds.now)) }
+    ensures { AreCoded numbers.now (codes_in table.now numbers.now newest.now builds.now) builds.now result }
 {
     let mut edges = Edges::new(alloc);
     edges.reserve(builds.len())?;
@@ -100,16 +107,40 @@ pub(crate) fn edges_of<'a>(
     for number in 0..builds.len() {
         let build = &builds[number];
         let named = numbers_at(numbers, number);
-        lists = put_code(
-            alloc,
-            lists,
-            &mut code,
-            named,
-            &plan.table,
-            plan.newest[number],
-            build,
-        )?;
+        let slot = slot_at(newest, number);
+        lists = put_code(alloc, lists, &mut code, named, table, slot, build)?;
         push_edge(alloc, &mut edges, &mut bodies, named, &code, build)?;
     }
     Ok((edges, bodies))
+}
+
+/// Returns an edge with the new number of its body.
+fn renumbered<'a>(edge: EdgeRef<'a>, numbers: &[u32]) -> EdgeRef<'a>
+    ensures { lent result ≡ renumbered numbers.now (lent edge.entry) }
+{
+    match edge.code {
+        CodeRef::Own(_) => edge,
+        CodeRef::Shared(body, operands) => {
+            let number = numbers.get(body as usize).copied().unwrap_or(0);
+            EdgeRef {
+                code: CodeRef::Shared(number, operands),
+                ..edge
+            }
+        }
+    }
+}
+
+/// Appends edges, with the new numbers of their bodies.
+pub(crate) fn append_edges(
+    edges: &mut Edges,
+    more: &Edges,
+    numbers: &[u32],
+) -> Result<(), AllocError>
+    ensures { OnOk result (edges.new ≡ edges.old ++ map (renumbered numbers.now) more.now) }
+{
+    edges.reserve(more.len())?;
+    for number in 0..more.len() {
+        edges.push_ref(renumbered(more.edge(number), numbers))?;
+    }
+    Ok(())
 }

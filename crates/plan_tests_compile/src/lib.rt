@@ -3,3 +3,5 @@
 
 #[cfg(test)]
 mod compile;
+#[cfg(test)]
+mod halves;

@@ -8,8 +8,8 @@ use Rattle.plan_compile.proofs.edges.edges_of.Given as goal
 
 abbrev pub invariant-loop-number : goal.invariant-loop-number
 invariant-loop-number l =
-    let codes = codes_in l.plan.table.items l.numbers l.plan.newest.items l.builds in
-    let left = codes_in l.plan.table.items (drop l.number l.numbers) (drop l.number l.plan.newest.items) (drop l.number l.builds) in
+    let codes = codes_in l.table l.numbers l.newest l.builds in
+    let left = codes_in l.table (drop l.number l.numbers) (drop l.number l.newest) (drop l.number l.builds) in
     (with_items same_body l.bodies (map body_of left) ≡ used_bodies codes)
     × (l.edges ++ edges_in (used_bodies codes) (drop l.number l.numbers) left (drop l.number l.builds) ≡ edges_in (used_bodies codes) l.numbers codes l.builds)
     × (length l.bodies ≤ l.number)
