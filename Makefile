@@ -86,21 +86,14 @@ tests: built
 	python3 tools/manifest_names.py
 	python3 tests/run.py $(PROGRAM)
 
-# How many checks run side by side: one a processor, as memory allows. A check takes less than 3 GB; rt ci by itself
-# counts on three times as much, and leaves processors idle.
+# How many must-fail edits are tried side by side: one a processor, as memory allows. A check takes less than 3 GB.
 GATE_JOBS = $(shell awk -v n=$$(nproc) '/^MemAvailable/ {m = int($$2 / 4000000); print m < 1 ? 1 : m < n ? m : n}' /proc/meminfo)
 
-# The gate: the documents, the unit tests, every proof, the must-fail edits, the bodies that tests refuse, refused
-# allocations, and then the program.
+# The gate: the documents; every proof, and beside them the unit tests, the must-fail edits, the bodies that tests refuse
+# and refused allocations; and then the programs.
 .PHONY: check
 check: kit
-	python3 tools/manifest_names.py
-	python3 tools/edits.py --fit $(CRATES)
-	python3 tools/unit_tests.py
-	RT_JOBS=$(GATE_JOBS) python3 tools/prove_all.py | tee gate.log
-	python3 tools/edits.py --gate --jobs $(GATE_JOBS) $(CRATES)
-	python3 tools/wrong_bodies.py --gate --tests-passed
-	$(MAKE) calls
+	python3 tools/gate.py
 	$(MAKE) tests
 
 # The unit tests, compiled without proofs.

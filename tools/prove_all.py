@@ -14,6 +14,7 @@ the upper ones.
 from __future__ import annotations
 
 import argparse
+import os
 import pathlib
 import re
 import shutil
@@ -21,11 +22,15 @@ import signal
 import subprocess
 import sys
 import tempfile
+from collections.abc import Sequence
+from typing import Callable, TextIO
 
 from over_sources import KIT
 
 ROOT = pathlib.Path(__file__).resolve().parent.parent
 ONLY_TESTS = re.compile(r"(?:plan_tests_\w+|plan_samples):")
+PROVED = re.compile(r"rt: (\w+) (?:proved$|is kept: )")
+Proved = Callable[[str, pathlib.Path], None]  # gets a crate that is proved, and the folder of what was made of it
 TESTS = re.compile(r"^#\[cfg\(test\)\]\nmod (\w+);\n", re.MULTILINE)
 
 
@@ -84,26 +89,49 @@ def move_back(home: pathlib.Path) -> None:
         shutil.move(str(made), str(to / made.name))
 
 
-def main() -> None:
-    parser = argparse.ArgumentParser(description=__doc__, formatter_class=argparse.RawDescriptionHelpFormatter)
-    parser.add_argument("crates", metavar="CRATE", nargs="*")
-    crates = parser.parse_args().crates
-    signal.signal(signal.SIGTERM, lambda *_: sys.exit(143))  # so that the copy is removed
+def run_ci(home: pathlib.Path, crates: Sequence[str], log: TextIO, proved: Proved) -> int:
+    """Runs `rt ci` on a copy, and writes what it says to a log too. Tells of each crate that is proved."""
+    run = subprocess.Popen(["rt", "ci", *crates], cwd=home, stdout=subprocess.PIPE, text=True, errors="replace")
+    try:
+        for line in run.stdout or ():
+            print(line, end="", flush=True)
+            log.write(line)
+            found = PROVED.match(line)
+            if found:
+                proved(found[1], home / "crates" / found[1] / "out")
+        return run.wait()
+    except BaseException:
+        run.terminate()
+        raise
+
+
+def prove(log: TextIO, proved: Proved, crates: Sequence[str] = ()) -> int:
+    """Proves all crates, or those named and the ones below them, and returns the status."""
     if not are_laid_out():
-        sys.exit("run rt fmt in the crates of these files")
+        print("run rt fmt in the crates of these files", file=sys.stderr)
+        return 1
     (ROOT / "out").mkdir(exist_ok=True)
     with tempfile.TemporaryDirectory(prefix="proofs-", dir=ROOT / "out") as name:
         home = pathlib.Path(name)
         (home / ".git").mkdir()  # so that the copy counts as a repository
         copy_without_tests(home)
-        status = subprocess.run(["rt", "ci", *crates], cwd=home).returncode
-        if crates:
-            sys.exit(status)
-        lacking = unmade(home)
-        move_back(home)
+        status = run_ci(home, crates, log, proved)
+        lacking = [] if crates else unmade(home)
+        if not crates:
+            move_back(home)
     if status == 0 and lacking:
-        sys.exit(f"rt ci passed, but made nothing of {' '.join(lacking)}")
-    sys.exit(status)
+        print(f"rt ci passed, but made nothing of {' '.join(lacking)}", file=sys.stderr)
+        return 1
+    return status
+
+
+def main() -> None:
+    parser = argparse.ArgumentParser(description=__doc__, formatter_class=argparse.RawDescriptionHelpFormatter)
+    parser.add_argument("crates", metavar="CRATE", nargs="*")
+    crates = parser.parse_args().crates
+    signal.signal(signal.SIGTERM, lambda *_: sys.exit(143))  # so that the copy is removed
+    with open(os.devnull, "w", encoding="utf-8") as log:
+        sys.exit(prove(log, lambda *_: None, crates))
 
 
 if __name__ == "__main__":

@@ -1,0 +1,148 @@
+#!/usr/bin/env python3
+"""Runs the gate but for the tests of the programs, as much of it side by side as there are processors.
+
+Proofs take longest, and those of the upper crates wait for each other, so that processors are idle. Beside them run, at
+a lower priority, the unit tests, the bodies that unit tests refuse, calls with refused memory, and the must-fail edits
+of each crate once it is proved. What a check says is printed when it has ended, what the proofs say at once, and to
+gate.log. All checks are run, whichever fail. The last line is `N passed, M failed`, of checks.
+"""
+from __future__ import annotations
+
+import argparse
+import concurrent.futures
+import os
+import pathlib
+import shutil
+import signal
+import subprocess
+import sys
+import tempfile
+import threading
+import time
+from typing import NamedTuple
+
+import edits
+import prove_all
+import tests_path  # noqa: F401: it makes lib known
+from lib import programs
+
+ROOT = pathlib.Path(__file__).resolve().parent.parent
+PROCESSORS = len(os.sched_getaffinity(0))
+FIRST = {"names in the documents": ["tools/manifest_names.py"],
+         "edits that fit": ["tools/edits.py", "--fit", *sorted(path.name for path in (ROOT / "crates").iterdir())]}
+BESIDE = {"calls with refused memory": ["tests/run.py", "-j", "1", "calls"],
+          "wrong bodies": ["tools/wrong_bodies.py", "--gate", "--tests-passed"],
+          "unit tests": ["tools/unit_tests.py", "--jobs", "1"]}  # the last one begins first
+
+
+class Check(NamedTuple):
+    name: str
+    passed: bool
+
+
+class Checks:
+    """Runs checks side by side: on half of the processors while crates are proved, and on all of them afterwards."""
+
+    def __init__(self) -> None:
+        self.pool = concurrent.futures.ThreadPoolExecutor(PROCESSORS)
+        self.free = threading.Semaphore(max(1, PROCESSORS // 2))
+        self.begun: list[concurrent.futures.Future[Check]] = []
+        self.running: set[subprocess.Popen[bytes]] = set()
+        self.printing = threading.Lock()
+
+    def begin(self, name: str, words: list[str]) -> None:
+        """Runs a check of this name as soon as a processor is free."""
+        self.begun.append(self.pool.submit(self.run, name, words))
+
+    def run(self, name: str, words: list[str]) -> Check:
+        """Runs a check, and prints what it said when it has ended."""
+        with self.free:
+            begun = time.monotonic()
+            check = subprocess.Popen(["nice", sys.executable, *words], cwd=ROOT, stdin=subprocess.DEVNULL,
+                                     stdout=subprocess.PIPE, stderr=subprocess.STDOUT)
+            self.running.add(check)
+            said, _ = check.communicate()
+            self.running.discard(check)
+        with self.printing:
+            how = "passed" if check.returncode == 0 else "FAILED"
+            print(f"== {name}: {how}, {time.monotonic() - begun:.0f} s", flush=True)
+            print(said.decode(errors="replace"), end="", flush=True)
+        return Check(name, check.returncode == 0)
+
+    def widen(self) -> None:
+        """Gives the checks all processors."""
+        for _ in range(PROCESSORS - max(1, PROCESSORS // 2)):
+            self.free.release()
+
+    def ended(self) -> list[Check]:
+        """Waits for all checks."""
+        return [check.result() for check in self.begun]
+
+    def stop(self) -> None:
+        """Ends the checks that are running, and leaves out the others."""
+        for check in self.begun:
+            check.cancel()
+        for running in list(self.running):
+            running.terminate()
+
+
+def link_library(out: pathlib.Path, libraries: pathlib.Path) -> None:
+    """Puts the library of a crate that was proved into a folder, without a copy of its files."""
+    for library in (out / "rlib").glob("*.rlib"):
+        shutil.copytree(library, libraries / library.name, copy_function=os.link, dirs_exist_ok=True)
+
+
+class Beside:
+    """Begins the checks beside the proofs."""
+
+    def __init__(self, checks: Checks, libraries: pathlib.Path) -> None:
+        self.checks, self.libraries, self.left = checks, libraries, dict(BESIDE)
+
+    def begin(self) -> None:
+        """Begins the checks that need no proof."""
+        while self.left:
+            self.checks.begin(*self.left.popitem())
+
+    def proved(self, crate: str, out: pathlib.Path) -> None:
+        """Begins the must-fail edits of a crate that is proved.
+
+        The other checks begin with the first crate, and not before: `rt ci` measures once, when it starts, how much
+        memory is free, and gives proofs fewer processors if there is little.
+        """
+        self.begin()
+        link_library(out, self.libraries)
+        if edits.edits_of(crate, (edits.GATE,)):
+            words = ["tools/edits.py", "--gate", "--jobs", "1", "--proved", str(self.libraries), crate]
+            self.checks.begin(f"edits of {crate}", words)
+
+
+def main() -> None:
+    argparse.ArgumentParser(description=__doc__, formatter_class=argparse.RawDescriptionHelpFormatter).parse_args()
+    signal.signal(signal.SIGTERM, lambda *_: sys.exit(143))  # so that all that runs is ended
+    (ROOT / "out").mkdir(exist_ok=True)
+    checks = Checks()
+    found = [checks.run(name, words) for name, words in FIRST.items()]
+    if not all(check.passed for check in found):
+        programs.end(sum(check.passed for check in found), sum(not check.passed for check in found))
+    with tempfile.TemporaryDirectory(prefix="gate-", dir=ROOT / "out") as folder:
+        libraries = pathlib.Path(folder)
+        try:
+            beside = Beside(checks, libraries)
+            with open(ROOT / "gate.log", "w", encoding="utf-8") as log:
+                found.append(Check("proofs", prove_all.prove(log, beside.proved) == 0))
+            beside.begin()
+            checks.widen()
+            found += checks.ended()
+        except BaseException:
+            checks.stop()
+            raise
+    for check in found:
+        print(f"{check.name}: {'passed' if check.passed else 'FAILED'}")
+    programs.end(sum(check.passed for check in found), sum(not check.passed for check in found))
+
+
+if __name__ == "__main__":
+    try:
+        main()
+    except KeyboardInterrupt:
+        sys.exit(130)
