@@ -22,6 +22,7 @@ import time
 from typing import NamedTuple
 
 import edits
+import over_sources
 import prove_all
 import tests_path  # noqa: F401: it makes lib known
 from lib import programs
@@ -29,7 +30,7 @@ from lib import programs
 ROOT = pathlib.Path(__file__).resolve().parent.parent
 PROCESSORS = len(os.sched_getaffinity(0))
 FIRST = {"names in the documents": ["tools/manifest_names.py"],
-         "edits that fit": ["tools/edits.py", "--fit", *sorted(path.name for path in (ROOT / "crates").iterdir())]}
+         "edits that fit": ["tools/edits.py", "--fit", *over_sources.crates()]}
 BESIDE = {"calls with refused memory": ["tests/run.py", "-j", "1", "calls"],
           "wrong bodies": ["tools/wrong_bodies.py", "--gate", "--tests-passed"],
           "unit tests": ["tools/unit_tests.py", "--jobs", "1"]}  # the last one begins first
