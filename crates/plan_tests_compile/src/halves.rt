@@ -1,10 +1,13 @@
 //! Tests that a manifest of many edges, of which several threads generate the codes, has the same image as if one
 //! thread did.
 
+ghost use Rattle.std.specs.Prelude.{IfOk};
+ghost use Rattle.plan_scope.specs.Sound.{IsSound};
+
 use plan_compile::*;
 use plan_graph::graph;
 use plan_image::{CodeRef, Image, print_image};
-use plan_scope::{Manifest, Source, SourceFault, evaluate, load};
+use plan_scope::{Manifest, Source, SourceFault, evaluate, load, loaded_manifests_are_sound};
 use plan_text::Counted;
 use std::alloc::{AllocError, Global};
 use std::test::Fail;
@@ -67,49 +70,17 @@ fn manifest_text(alloc: Global) -> Result<Vec<u8>, AllocError> {
     Ok(text)
 }
 
-/// Loads and evaluates the manifest. Returns `None` if it is refused.
-fn manifest(alloc: Global) -> Option<Manifest> {
-    let Ok(bytes) = manifest_text(alloc) else {
-        return None;
-    };
+/// Loads and evaluates the manifest.
+fn manifest(alloc: Global) -> Result<Manifest, Fail>
+    ensures { IfOk result (λ manifest. IsSound manifest) }
+{
+    loaded_manifests_are_sound::<Text>();
+    let bytes = manifest_text(alloc)?;
     let Ok(tree) = load(alloc, &mut Text { bytes }, b"build.ninja") else {
-        return None;
+        return Err(Fail::from(AllocError));
     };
     match evaluate(alloc, &tree) {
-        Ok(manifest) => Some(manifest),
-        Err(_) => None,
-    }
-}
-
-/// Returns the image that one thread or several compile.
-fn compiled<R: Threads + Sync>(
-    rt: &R,
-    alloc: Global,
-    manifest: &Manifest,
-    in_threads: bool,
-) -> Option<Image> {
-    let Ok(graph) = graph(alloc, manifest) else {
-        return None;
-    };
-    let rule = OutOfDateRule::Stricter;
-    let image = if in_threads {
-        let names = collect_names(alloc, manifest);
-        compile_with(rt, alloc, manifest, &graph, names, rule)
-    } else {
-        compile(alloc, manifest, &graph, rule)
-    };
-    match image {
-        Ok(image) => Some(image),
-        Err(_) => None,
-    }
-}
-
-/// Returns the bytes of an image.
-fn bytes_of(alloc: Global, image: &Image) -> Result<Vec<u8>, Fail> {
-    let mut out = Counted::new(Vec::new(alloc));
-    let mut room = Vec::new(alloc);
-    match print_image(image, &mut room, &mut out) {
-        Ok(()) => Ok(out.into_writer()),
+        Ok(manifest) => Ok(manifest),
         Err(_) => Err(Fail::from(AllocError)),
     }
 }
@@ -122,24 +93,70 @@ fn body_of(image: &Image, edge: usize) -> Option<u32> {
     }
 }
 
+/// What is compared of an image: its bytes, and the numbers of the bodies of four edges.
+#[derive(Drop)]
+struct Compared {
+    bytes: Vec<u8>,
+    bodies: [Option<u32>; 4],
+}
+
+/// Returns what is compared of an image.
+fn parts_of(alloc: Global, image: &Image) -> Result<Compared, Fail> {
+    let mut room = Vec::new(alloc);
+    let mut out = Counted::new(Vec::new(alloc));
+    if print_image(image, &mut room, &mut out).is_err() {
+        return Err(Fail::from(AllocError));
+    }
+    Ok(Compared {
+        bytes: out.into_writer(),
+        bodies: [
+            body_of(image, 0),
+            body_of(image, 2),
+            body_of(image, EDGES - 2),
+            body_of(image, EDGES - 1),
+        ],
+    })
+}
+
+/// Returns what is compared of the image that one thread compiles.
+fn by_one(alloc: Global, manifest: &Manifest) -> Result<Compared, Fail>
+    requires { IsSound manifest.now }
+{
+    let Ok(graph) = graph(alloc, manifest) else {
+        return Err(Fail::from(AllocError));
+    };
+    match compile(alloc, manifest, &graph, OutOfDateRule::Stricter) {
+        Ok(image) => parts_of(alloc, &image),
+        Err(_) => Err(Fail::from(AllocError)),
+    }
+}
+
+/// Returns what is compared of the image that several threads compile.
+fn by_several<R: Threads + Sync>(
+    rt: &R,
+    alloc: Global,
+    manifest: &Manifest,
+) -> Result<Compared, Fail>
+    requires { IsSound manifest.now }
+{
+    let Ok(graph) = graph(alloc, manifest) else {
+        return Err(Fail::from(AllocError));
+    };
+    let names = collect_names(alloc, manifest);
+    match compile_with(rt, alloc, manifest, &graph, names, OutOfDateRule::Stricter) {
+        Ok(image) => parts_of(alloc, &image),
+        Err(_) => Err(Fail::from(AllocError)),
+    }
+}
+
 /// Checks that both images are the same, and that bodies are numbered in the order of first use.
 #[test]
 fn halves_are_joined(rt: HostRuntime) -> Result<(), Fail> {
     let alloc = rt.alloc();
-    let Some(manifest) = manifest(alloc) else {
-        panic!(&rt; "no manifest");
-    };
-    let Some(one) = compiled(&rt, alloc, &manifest, false) else {
-        panic!(&rt; "no image");
-    };
-    let Some(other) = compiled(&rt, alloc, &manifest, true) else {
-        panic!(&rt; "no image by threads");
-    };
-    let found = bytes_of(alloc, &other)?;
-    assert_eq!(&rt; found, bytes_of(alloc, &one)?);
-    assert_eq!(&rt; body_of(&other, 0), Some(0));
-    assert_eq!(&rt; body_of(&other, 2), Some(2));
-    assert_eq!(&rt; body_of(&other, EDGES - 2), Some(4));
-    assert_eq!(&rt; body_of(&other, EDGES - 1), Some(6));
+    let manifest = manifest(alloc)?;
+    let one = by_one(alloc, &manifest)?;
+    let several = by_several(&rt, alloc, &manifest)?;
+    assert_eq!(&rt; several.bytes.as_slice(), one.bytes.as_slice());
+    assert_eq!(&rt; several.bodies, [Some(0), Some(2), Some(4), Some(6)]);
     Ok(())
 }
