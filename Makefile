@@ -87,9 +87,9 @@ tests: built
 	python3 tests/run.py $(PROGRAM)
 
 # How many must-fail edits are tried side by side: one a processor, as memory allows. A check takes less than 3 GB.
-GATE_JOBS = $(shell awk -v n=$$(nproc) '/^MemAvailable/ {m = int($$2 / 4000000); print m < 1 ? 1 : m < n ? m : n}' /proc/meminfo)
+EDIT_JOBS = $(shell awk -v n=$$(nproc) '/^MemAvailable/ {m = int($$2 / 4000000); print m < 1 ? 1 : m < n ? m : n}' /proc/meminfo)
 
-# The gate: the documents; every proof, and beside them the unit tests, the must-fail edits, the bodies that tests refuse
+# The gate: the documents; every proof, and meanwhile the unit tests, the must-fail edits, the bodies that tests refuse
 # and refused allocations; and then the programs.
 .PHONY: check
 check: kit
@@ -106,7 +106,7 @@ units: kit
 CRATES = $(notdir $(patsubst %/,%,$(wildcard crates/*/)))
 .PHONY: edits
 edits: kit
-	python3 tools/edits.py --jobs $(GATE_JOBS) $(CRATES)
+	python3 tools/edits.py --jobs $(EDIT_JOBS) $(CRATES)
 	python3 tools/wrong_bodies.py $(CRATES)
 
 # Calls the lower crates with refused memory, and runs damaged images, in a program without proofs.

@@ -1,10 +1,11 @@
 #!/usr/bin/env python3
 """Runs the gate but for the tests of the programs, as much of it side by side as there are processors.
 
-Proofs take longest, and those of the upper crates wait for each other, so that processors are idle. Beside them run, at
-a lower priority, the unit tests, the bodies that unit tests refuse, calls with refused memory, and the must-fail edits
-of each crate once it is proved. What a check says is printed when it has ended, what the proofs say at once, and to
-gate.log. All checks are run, whichever fail. The last line is `N passed, M failed`, of checks.
+Proofs take longest, and those of the upper crates wait for each other, so that processors are idle. Meanwhile these
+checks run at a lower priority: the unit tests, the bodies that unit tests refuse, calls with refused memory, and the
+must-fail edits of each crate once it is proved. The output of a check is printed when it has ended, that of the proofs
+at once, and to gate.log. If a name in the documents doesn't exist, or an edit doesn't fit, nothing else is run.
+Otherwise all checks are run, whichever fail. The last line is `N passed, M failed`, of checks.
 """
 from __future__ import annotations
 
@@ -31,9 +32,9 @@ ROOT = pathlib.Path(__file__).resolve().parent.parent
 PROCESSORS = len(os.sched_getaffinity(0))
 FIRST = {"names in the documents": ["tools/manifest_names.py"],
          "edits that fit": ["tools/edits.py", "--fit", *over_sources.crates()]}
-BESIDE = {"calls with refused memory": ["tests/run.py", "-j", "1", "calls"],
-          "wrong bodies": ["tools/wrong_bodies.py", "--gate", "--tests-passed"],
-          "unit tests": ["tools/unit_tests.py", "--jobs", "1"]}  # the last one begins first
+MEANWHILE = {"calls with refused memory": ["tests/run.py", "-j", "1", "calls"],
+             "wrong bodies": ["tools/wrong_bodies.py", "--gate", "--tests-passed"],
+             "unit tests": ["tools/unit_tests.py", "--jobs", "1"]}  # the last one begins first
 
 
 class Check(NamedTuple):
@@ -93,11 +94,11 @@ def link_library(out: pathlib.Path, libraries: pathlib.Path) -> None:
         shutil.copytree(library, libraries / library.name, copy_function=os.link, dirs_exist_ok=True)
 
 
-class Beside:
-    """Begins the checks beside the proofs."""
+class Starter:
+    """Begins checks while crates are proved."""
 
     def __init__(self, checks: Checks, libraries: pathlib.Path) -> None:
-        self.checks, self.libraries, self.left = checks, libraries, dict(BESIDE)
+        self.checks, self.libraries, self.left = checks, libraries, dict(MEANWHILE)
 
     def begin(self) -> None:
         """Begins the checks that need no proof."""
@@ -128,10 +129,10 @@ def main() -> None:
     with tempfile.TemporaryDirectory(prefix="gate-", dir=ROOT / "out") as folder:
         libraries = pathlib.Path(folder)
         try:
-            beside = Beside(checks, libraries)
+            starter = Starter(checks, libraries)
             with open(ROOT / "gate.log", "w", encoding="utf-8") as log:
-                found.append(Check("proofs", prove_all.prove(log, beside.proved) == 0))
-            beside.begin()
+                found.append(Check("proofs", prove_all.prove(log, starter.proved) == 0))
+            starter.begin()
             checks.widen()
             found += checks.ended()
         except BaseException:

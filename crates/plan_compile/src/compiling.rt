@@ -232,7 +232,8 @@ fn image_of<'a, 'b, G: Generator>(
 }
 
 /// Compiles like `compile`, given the names that `collect_names` returned for the manifest. If it ran out of memory, so
-/// does this call. If there are many edges, four threads generate their codes, as far as threads can be started.
+/// does this call. If there are 500 edges or more, two threads generate their codes, and from 1,000 on four. Edges
+/// whose thread can't be started are left to another thread.
 ///
 /// # Errors
 ///

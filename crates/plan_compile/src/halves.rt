@@ -19,7 +19,7 @@ use plan_image::Edges;
 use std::alloc::Global;
 use std::thread::{Threads, join};
 
-/// The number of edges below which they aren't split, since the start of a thread takes longer than what it saves.
+/// The number of edges below which they aren't split, since starting a thread takes longer than it saves.
 const FEW: usize = 500;
 
 /// Appends the edges of the second half to those of the first one. The bodies are numbered in the order of first use.
@@ -41,7 +41,7 @@ fn join_halves(
     Ok((edges, bodies))
 }
 
-/// A type of edges of which the codes can be generated.
+/// A type of edges whose codes can be generated.
 pub(crate) trait HasCode {
     ghost use Rattle.std.specs.Prelude.{◌≡◌, ◌≤◌, length, map};
     ghost use Rattle.plan_graph.specs.Graph.{max_edges};
@@ -83,8 +83,8 @@ impl<'a> HasCode for Build<'a> {
 /// Generates the codes of these edges like `edges_of`, with the same result. The edges are split in halves `halvings`
 /// times, unless there are few, and the codes of the halves are generated side by side.
 ///
-/// The type of the edges is a parameter, because nothing would be known of what a closure returns that borrows values
-/// of a type with a lifetime, as `Build` is.
+/// The type of the edges is a parameter: if a closure borrows values of a type with a lifetime, as `Build` is, its
+/// contract says nothing.
 pub(crate) fn edges_by_halves<R: Threads + Sync, B: HasCode + Sync>(
     rt: &R,
     alloc: Global,

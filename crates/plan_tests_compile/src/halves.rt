@@ -1,5 +1,4 @@
-//! Tests that a manifest of many edges, of which several threads generate the codes, has the same image as if one
-//! thread did.
+//! Tests that a manifest has the same image whether one thread or several generate the codes of its many edges.
 
 ghost use Rattle.std.specs.Prelude.{IfOk};
 ghost use Rattle.plan_scope.specs.Sound.{IsSound};
