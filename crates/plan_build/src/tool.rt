@@ -23,7 +23,7 @@ use plan_tools::closest;
 use std::alloc::Global;
 
 /// A tool of ninja that this program has.
-#[derive(Clone, Copy, Debug, PartialEq, Eq)]
+#[derive(Clone, Copy, PartialEq, Eq)]
 pub enum Tool {
     /// Removes files that commands made.
     Clean,

@@ -13,7 +13,7 @@ use std::marker::Model;
 ///
 /// The chunks are stored consecutively in one vector. If they would have more than 4,294,967,295 bytes, `put` fails as
 /// if memory had run out.
-#[derive(Debug, Drop)]
+#[derive(Drop)]
 pub struct Chunks {
     /// The bytes of each chunk.
     rows: RowList<u8>,

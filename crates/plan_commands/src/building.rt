@@ -52,7 +52,7 @@ pub struct Order<'a> {
 }
 
 /// The end of a build.
-#[derive(Clone, Copy, Debug, PartialEq, Eq)]
+#[derive(Clone, Copy, PartialEq, Eq)]
 pub enum Done {
     /// All wanted edges succeeded, and the command of at least one edge ran.
     Built,

@@ -22,7 +22,7 @@ use std::thread::{Parker, Threads};
 
 /// The numbers of commands that a dry build listed. A command that is listed for the manifest and for a target counts
 /// twice.
-#[derive(Clone, Copy, Debug, PartialEq, Eq)]
+#[derive(Clone, Copy, PartialEq, Eq)]
 pub struct Listed {
     /// All commands.
     pub commands: u64,

@@ -9,7 +9,7 @@ use plan_text::Items;
 use std::alloc::{AllocError, Global};
 
 /// The reason why the program refuses, and the details that are printed.
-#[derive(Debug, Drop)]
+#[derive(Drop)]
 pub struct PlanFault {
     /// The number of the fault: 1 to 134.
     pub number: u8,

@@ -1,7 +1,7 @@
 //! The out-of-date rule that an image is compiled for, and the baseline of an edge under it.
 
 /// The out-of-date rule that an image is compiled for.
-#[derive(Clone, Copy, Debug, PartialEq, Eq)]
+#[derive(Clone, Copy, PartialEq, Eq)]
 pub enum OutOfDateRule {
     /// An edge compares its newest input with its oldest output, or with the recorded basis if it is restat.
     Specified,
@@ -11,7 +11,7 @@ pub enum OutOfDateRule {
 
 /// The stamp that the newest input of an edge must not exceed. Without a recorded entry it is that of the
 /// oldest output.
-#[derive(Clone, Copy, Debug, PartialEq, Eq)]
+#[derive(Clone, Copy, PartialEq, Eq)]
 pub enum Baseline {
     /// The stamp of the oldest output.
     Outputs,

@@ -8,7 +8,7 @@ use plan_text::Memory;
 use std::alloc::{AllocError, AllocFailed};
 
 /// The reason why a manifest has no image.
-#[derive(Clone, Copy, Debug, PartialEq, Eq)]
+#[derive(Clone, Copy, PartialEq, Eq)]
 pub enum CompileFault {
     /// The image would exceed a limit of images. docs/rules/image.md lists them.
     Limit,

@@ -4,7 +4,7 @@ use crate::baseline::Baseline;
 use plan_text::Items;
 
 /// The source of an input's stamp.
-#[derive(Clone, Copy, Debug, PartialEq, Eq)]
+#[derive(Clone, Copy, PartialEq, Eq)]
 pub enum Input {
     /// A source file, by its number. The code asks for its stamp.
     File(u32),
@@ -13,7 +13,7 @@ pub enum Input {
 }
 
 /// An output: its file, and the slots of its stamp and of its changed flag.
-#[derive(Clone, Copy, Debug, PartialEq, Eq)]
+#[derive(Clone, Copy, PartialEq, Eq)]
 pub struct Output {
     pub file: u32,
     pub stamp: u32,
@@ -21,7 +21,7 @@ pub struct Output {
 }
 
 /// An edge with a command.
-#[derive(Debug, Drop)]
+#[derive(Drop)]
 pub struct CommandLayout {
     /// The explicit and the implicit inputs, in order.
     pub named: Items<Input>,
@@ -47,7 +47,7 @@ pub struct CommandLayout {
 
 /// A phony with inputs of any sort. Its outputs have the stamp and the flag of the named inputs, and share two
 /// slots.
-#[derive(Debug, Drop)]
+#[derive(Drop)]
 pub struct GatherLayout {
     pub named: Items<Input>,
     /// The order-only source files that aren't also named inputs.
@@ -62,7 +62,7 @@ pub struct GatherLayout {
 }
 
 /// An edge of any sort.
-#[derive(Debug, Drop)]
+#[derive(Drop)]
 pub enum EdgeLayout {
     Command(CommandLayout),
     /// A phony with inputs.

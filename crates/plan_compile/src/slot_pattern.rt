@@ -1,7 +1,7 @@
 //! Slot patterns: how the outputs of an edge share slots for their stamps and flags.
 
 /// The way in which the outputs of an edge share slots. It depends on the sort of the edge.
-#[derive(Clone, Copy, Debug, PartialEq, Eq)]
+#[derive(Clone, Copy, PartialEq, Eq)]
 pub enum SlotPattern {
     /// The edge has a command and isn't restat: its outputs change together.
     OneFlag,

@@ -8,7 +8,7 @@ use plan_text::Items;
 use std::alloc::{AllocError, AllocFailed};
 
 /// The reason why a manifest has no graph.
-#[derive(Debug, Drop)]
+#[derive(Drop)]
 pub enum GraphFault {
     /// This path is an output of two edges, or an output of one edge twice.
     TwoProducers(Items<u8>),

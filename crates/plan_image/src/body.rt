@@ -15,7 +15,7 @@ use std::marker::Model;
 ///
 /// The rank of each instruction, which is the number of open instructions before it, is stored with it. The
 /// operand of an open instruction is then found in one access.
-#[derive(Debug, Drop)]
+#[derive(Drop)]
 pub struct Body {
     instrs: Vec<BodyInstr>,
     ranks: Vec<usize>,
@@ -185,7 +185,7 @@ pub fn split_law()
 {}
 
 /// The kind of a value on an edge's stack or in a slot. An image has the kinds as numbers from 1 to 5.
-#[derive(Clone, Copy, Debug, Default, PartialEq, Eq)]
+#[derive(Clone, Copy, Default, PartialEq, Eq)]
 pub enum Kind {
     /// A file's modification time, or 0 if the file is missing.
     #[default]
@@ -203,7 +203,7 @@ pub enum Kind {
 /// An instruction with its operand: the number of a file (`Stat`, `Need`), of a slot (`Load`, `Store`), of a
 /// text (`Text`), of a place (`Jump`, `JumpIf`), or a flag. Its opcodes are 0 to 28 in the order of the
 /// variants.
-#[derive(Clone, Copy, Debug, PartialEq, Eq)]
+#[derive(Clone, Copy, PartialEq, Eq)]
 pub enum Instr {
     End,
     Stat(u32),
@@ -339,7 +339,7 @@ impl Instr {
 }
 
 /// The kind of an open instruction, whose operand is stored in the edge.
-#[derive(Clone, Copy, Debug, PartialEq, Eq)]
+#[derive(Clone, Copy, PartialEq, Eq)]
 pub enum Opening {
     Stat,
     Need,
@@ -369,14 +369,14 @@ impl Opening {
 
 /// An instruction of a body. In an image each instruction that can be open is open: `Fixed` has none of the
 /// five kinds of `Opening`.
-#[derive(Clone, Copy, Debug, PartialEq, Eq)]
+#[derive(Clone, Copy, PartialEq, Eq)]
 pub enum BodyInstr {
     Fixed(Instr),
     Open(Opening),
 }
 
 /// The source of the instructions of a code.
-#[derive(Clone, Copy, Debug)]
+#[derive(Clone, Copy)]
 pub(crate) enum Members<'a> {
     /// The edge's own instructions.
     Own(InstrsRef<'a>),

@@ -8,7 +8,7 @@ use crate::image::Sort;
 
 /// The part of an edge that is not a list. If it names a body, the edge has operands, and otherwise the edge
 /// has its own instructions.
-#[derive(Clone, Copy, Debug)]
+#[derive(Clone, Copy)]
 pub(crate) struct Head {
     pub sort: Sort,
     pub pool: Option<u32>,
@@ -18,7 +18,7 @@ pub(crate) struct Head {
 }
 
 /// Borrowed instructions: their opcodes and, at the same indices, their operands.
-#[derive(Clone, Copy, Debug)]
+#[derive(Clone, Copy)]
 pub struct InstrsRef<'a> {
     pub(crate) opcodes: &'a [u8],
     pub(crate) operands: &'a [u32],
@@ -66,7 +66,7 @@ fn operand_at(operands: &[u32], place: usize) -> u32
 }
 
 /// The borrowed code of an edge.
-#[derive(Clone, Copy, Debug)]
+#[derive(Clone, Copy)]
 pub enum CodeRef<'a> {
     /// Version 1: the edge's own instructions.
     Own(InstrsRef<'a>),
@@ -75,7 +75,7 @@ pub enum CodeRef<'a> {
 }
 
 /// A borrowed edge, with the same fields as `Edge`.
-#[derive(Clone, Copy, Debug)]
+#[derive(Clone, Copy)]
 pub struct EdgeRef<'a> {
     pub sort: Sort,
     pub pool: Option<u32>,

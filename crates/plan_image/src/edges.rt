@@ -13,7 +13,7 @@ use std::marker::Model;
 
 /// The edges of an image. A contract sees a list of `Edge`. They are stored in columns: an edge takes 44 bytes,
 /// four for each output, wait and operand, and five for each instruction of its own.
-#[derive(Debug, Drop)]
+#[derive(Drop)]
 pub struct Edges {
     heads: Vec<Head>,
     outputs: RowList<u32>,

@@ -10,7 +10,7 @@ use std::alloc::AllocError;
 /// The reason why bytes or tables are refused. An offset counts bytes from 0. If there are several faults, the
 /// first one that a reader meets from left to right is returned. If tables are refused that were not read from
 /// bytes, the offset is 0.
-#[derive(Clone, Copy, Debug, PartialEq, Eq)]
+#[derive(Clone, Copy, PartialEq, Eq)]
 pub enum ImageFault {
     /// The bytes don't begin with `PLANIMG`. The offset is 0.
     BadMagic(u64),
@@ -89,7 +89,7 @@ impl From<AllocError> for ImageFault {
 }
 
 /// The kind of a fault, without its offset.
-#[derive(Clone, Copy, Debug, PartialEq, Eq)]
+#[derive(Clone, Copy, PartialEq, Eq)]
 pub(crate) enum Cause {
     BadMagic,
     BadVersion,

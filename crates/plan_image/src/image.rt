@@ -16,7 +16,7 @@ use plan_text::{Items, RowList};
 use std::marker::Model;
 
 /// The sort of an edge.
-#[derive(Clone, Copy, Debug, PartialEq, Eq)]
+#[derive(Clone, Copy, PartialEq, Eq)]
 pub enum Sort {
     /// An edge that has a command.
     Command,
@@ -26,14 +26,14 @@ pub enum Sort {
 
 /// A pool: its name of at most 65,535 bytes, and its depth, which is the number of edges that may run in it at
 /// once, at most 1,000,000.
-#[derive(Debug, Drop)]
+#[derive(Drop)]
 pub struct Pool {
     pub name: Items<u8>,
     pub depth: u32,
 }
 
 /// A slot: the edge that sets it, and the kind of its value.
-#[derive(Clone, Copy, Debug, PartialEq, Eq)]
+#[derive(Clone, Copy, PartialEq, Eq)]
 pub struct Slot {
     pub owner: u32,
     pub kind: Kind,
@@ -42,7 +42,7 @@ pub struct Slot {
 /// An edge: the number of its pool, its rank, its label (the number of a text), the files that it creates (the
 /// first one gives the edge its name), the edges that it waits for (in ascending order), and its code. An image
 /// does not guarantee that the numbers exist in their tables.
-#[derive(Debug, Drop)]
+#[derive(Drop)]
 pub struct Edge {
     pub sort: Sort,
     pub pool: Option<u32>,
@@ -54,7 +54,7 @@ pub struct Edge {
 }
 
 /// The instructions of an edge, in the form of the image's version.
-#[derive(Debug, Drop)]
+#[derive(Drop)]
 pub enum EdgeCode {
     /// Version 1: its own instructions.
     Own(Items<Instr>),
@@ -63,7 +63,7 @@ pub enum EdgeCode {
 }
 
 /// The version of an image.
-#[derive(Clone, Copy, Debug, PartialEq, Eq)]
+#[derive(Clone, Copy, PartialEq, Eq)]
 pub enum Version {
     /// Each edge has its own instructions.
     One,
@@ -72,7 +72,7 @@ pub enum Version {
 }
 
 /// The tables of an image. Items are numbered by their index, from 0. docs/rules/image.md lists their limits.
-#[derive(Debug, Drop)]
+#[derive(Drop)]
 pub struct Parts {
     pub texts: RowList<u8>,
     pub files: RowList<u8>,
@@ -179,7 +179,7 @@ fn no_code<'a>() -> CodeView<'a>
 
 /// Tables that have a spelling: they are within all limits and in order, and each code has the form of the
 /// version. A contract sees the tables.
-#[derive(Debug, Drop)]
+#[derive(Drop)]
 pub struct Image {
     parts: Parts,
 }

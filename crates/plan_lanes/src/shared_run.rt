@@ -40,7 +40,7 @@ impl RunBrand for Brand {
 }
 
 /// Whether lanes stop before the run has ended, and why.
-#[derive(Clone, Copy, Debug, PartialEq, Eq)]
+#[derive(Clone, Copy, PartialEq, Eq)]
 pub enum Stopped {
     /// They go on.
     No,

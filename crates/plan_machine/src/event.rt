@@ -56,7 +56,7 @@ impl Event {
 }
 
 /// The outcome of an edge.
-#[derive(Clone, Copy, Debug, PartialEq, Eq)]
+#[derive(Clone, Copy, PartialEq, Eq)]
 pub enum Outcome {
     /// It succeeded without running a command.
     Clean,
@@ -90,7 +90,7 @@ impl Outcome {
 }
 
 /// The effect of an event. The first number is that of the edge.
-#[derive(Clone, Copy, Debug, PartialEq, Eq)]
+#[derive(Clone, Copy, PartialEq, Eq)]
 pub enum Mark {
     /// It began.
     Started(u32),

@@ -3,7 +3,7 @@
 use plan_text::Items;
 
 /// An option without a value.
-#[derive(Clone, Copy, Debug, PartialEq, Eq)]
+#[derive(Clone, Copy, PartialEq, Eq)]
 pub enum Flag {
     /// `-h`, `--help`: print the options.
     Help,
@@ -20,7 +20,7 @@ pub enum Flag {
 }
 
 /// An option with a value.
-#[derive(Clone, Copy, Debug, PartialEq, Eq)]
+#[derive(Clone, Copy, PartialEq, Eq)]
 pub enum Setting {
     /// `-C DIR`: the folder to work in.
     Folder,
@@ -41,7 +41,7 @@ pub enum Setting {
 }
 
 /// The reason why a word isn't understood.
-#[derive(Debug, Drop)]
+#[derive(Drop)]
 pub enum Misuse {
     /// No option has this letter.
     UnknownLetter(u8),
@@ -56,7 +56,7 @@ pub enum Misuse {
 }
 
 /// One option, target or word of a tool.
-#[derive(Debug, Drop)]
+#[derive(Drop)]
 pub enum Argument {
     /// An option without a value.
     Flag(Flag),

@@ -6,7 +6,7 @@ ghost use Rattle.plan_options.specs.Reading as reading;
 use crate::argument::{Argument, Setting};
 
 /// The kind of the next word.
-#[derive(Clone, Copy, Debug, PartialEq, Eq)]
+#[derive(Clone, Copy, PartialEq, Eq)]
 pub(crate) enum Expected {
     /// An option or a target.
     Any,

@@ -8,7 +8,7 @@ ghost use Rattle.plan_options.specs.Integers as defined;
 use plan_text::number_in;
 
 /// A number in a value.
-#[derive(Clone, Copy, Debug, PartialEq, Eq)]
+#[derive(Clone, Copy, PartialEq, Eq)]
 pub enum Integer {
     /// It is below 0.
     Negative,

@@ -10,7 +10,7 @@ use plan_text::{Items, Memory};
 use std::alloc::Global;
 
 /// An option of one letter.
-#[derive(Clone, Copy, Debug, PartialEq, Eq)]
+#[derive(Clone, Copy, PartialEq, Eq)]
 pub(crate) enum Letter {
     /// It has no value.
     Flag(Flag),

@@ -9,7 +9,7 @@ use crate::argument::{Argument, Flag, Setting};
 use crate::integer::{Integer, integer_in, past_white};
 
 /// The reason why ninja ends at an argument.
-#[derive(Clone, Copy, Debug, PartialEq, Eq)]
+#[derive(Clone, Copy, PartialEq, Eq)]
 pub enum Stop {
     /// The version is requested.
     Version,

@@ -8,7 +8,7 @@ use crate::statement::Directive;
 use std::alloc::{AllocError, Global};
 
 /// A path that is stored by its place in the text.
-#[derive(Clone, Copy, Debug, Drop)]
+#[derive(Clone, Copy, Drop)]
 pub enum CompactPath {
     /// The path whose bytes at this place all stand for themselves.
     Plain(Span),
@@ -17,7 +17,7 @@ pub enum CompactPath {
 }
 
 /// The right side of a binding, stored by its place in the text.
-#[derive(Clone, Copy, Debug, Drop)]
+#[derive(Clone, Copy, Drop)]
 pub enum CompactValue {
     /// The value whose bytes at this place all stand for themselves.
     Plain(Span),
@@ -26,7 +26,7 @@ pub enum CompactValue {
 }
 
 /// A binding that is stored by its places in the text.
-#[derive(Clone, Copy, Debug, Drop)]
+#[derive(Clone, Copy, Drop)]
 pub struct CompactBinding {
     /// The place of its name.
     pub name: Span,
@@ -35,7 +35,7 @@ pub struct CompactBinding {
 }
 
 /// A build line that is stored by its places in the text, with the lines below it.
-#[derive(Clone, Copy, Debug, Drop)]
+#[derive(Clone, Copy, Drop)]
 pub struct CompactBuild {
     /// The offset of its first byte.
     pub offset: u32,
@@ -64,7 +64,7 @@ const NO_BUILD: CompactBuild = CompactBuild {
 
 /// The build lines of a file, their paths and their variables, in one list each. With these lists, a build line
 /// takes no memory of its own.
-#[derive(Debug, Drop)]
+#[derive(Drop)]
 pub struct BuildLists {
     /// The build lines in their order.
     pub(crate) builds: Vec<CompactBuild>,
@@ -112,7 +112,7 @@ impl BuildLists {
 
 /// A statement that is stored by places in the text, and by the number of its build line in the file. The
 /// contents of a binding, and the paths and variables of a build line, are read again when they are needed.
-#[derive(Debug, Drop)]
+#[derive(Drop)]
 pub enum CompactStatement {
     /// The binding in this line.
     Binding(Span),
@@ -136,7 +136,7 @@ impl CompactStatement {
 }
 
 /// The statements of a file, stored by their places in the text.
-#[derive(Debug, Drop)]
+#[derive(Drop)]
 pub struct ParsedFile {
     /// The statements in their order.
     pub statements: Vec<CompactStatement>,
@@ -145,7 +145,7 @@ pub struct ParsedFile {
 }
 
 /// One value for each list of paths of a build line, such as the paths themselves.
-#[derive(Debug, Drop)]
+#[derive(Drop)]
 pub struct PathLists<T> {
     /// The value for the explicit outputs.
     pub outputs: T,
@@ -160,7 +160,7 @@ pub struct PathLists<T> {
 }
 
 /// The range of a list in a longer one.
-#[derive(Clone, Copy, Debug, Drop)]
+#[derive(Clone, Copy, Drop)]
 pub struct ListPlace {
     /// The index of its first item.
     pub start: u32,
@@ -170,7 +170,7 @@ pub struct ListPlace {
 
 /// The ranges of the five lists of paths of a build line among the paths of its file. The lists are
 /// consecutive, in this order.
-#[derive(Clone, Copy, Debug, Drop)]
+#[derive(Clone, Copy, Drop)]
 pub struct PathPlaces {
     /// The index of the first path.
     pub start: u32,
@@ -201,7 +201,7 @@ pub fn between<T>(items: &[T], start: u32, end: u32) -> &[T]
 }
 
 /// The place of a line or a path in its text. Any text that is read is short enough for these numbers.
-#[derive(Clone, Copy, Debug, Drop)]
+#[derive(Clone, Copy, Drop)]
 pub struct Span {
     /// The offset of its first byte.
     pub at: u32,

@@ -9,7 +9,7 @@ use std::alloc::{AllocError, AllocFailed};
 
 /// The reason why a text is no list of statements. An offset counts bytes from 0. It is that of the byte at
 /// which the missing item was expected, or at which the wrong item is.
-#[derive(Clone, Copy, Debug, PartialEq, Eq)]
+#[derive(Clone, Copy, PartialEq, Eq)]
 pub enum ParseFault {
     /// A statement, a rule, a pool or a variable has no name.
     ExpectedName(u64),

@@ -3,7 +3,7 @@
 use plan_text::{Items, PieceList, SmallText};
 
 /// A name and its value: `name = value`.
-#[derive(Debug, Drop)]
+#[derive(Drop)]
 pub struct Binding {
     /// The name.
     pub name: SmallText,
@@ -12,7 +12,7 @@ pub struct Binding {
 }
 
 /// A rule and the lines below it.
-#[derive(Debug, Drop)]
+#[derive(Drop)]
 pub struct Rule {
     /// The name by which build lines refer to it.
     pub name: SmallText,
@@ -21,7 +21,7 @@ pub struct Rule {
 }
 
 /// A pool.
-#[derive(Debug, Drop)]
+#[derive(Drop)]
 pub struct Pool {
     /// The name by which edges refer to it.
     pub name: SmallText,
@@ -30,7 +30,7 @@ pub struct Pool {
 }
 
 /// The contents of a directive: a statement that is neither a binding nor a build line.
-#[derive(Debug, Drop)]
+#[derive(Drop)]
 pub enum DirectiveKind {
     /// `rule name` and its block.
     Rule(Rule),
@@ -45,7 +45,7 @@ pub enum DirectiveKind {
 }
 
 /// A directive, with the offset of its first byte.
-#[derive(Debug, Drop)]
+#[derive(Drop)]
 pub struct Directive {
     /// The offset of its first byte.
     pub offset: u64,

@@ -2,7 +2,7 @@
 
 /// The number of edges that have started so far, and of those that have ended, by how they ended. All fields but
 /// `failed` count only command edges.
-#[derive(Clone, Copy, Debug, PartialEq, Eq)]
+#[derive(Clone, Copy, PartialEq, Eq)]
 pub struct Counts {
     /// They have started, or an input of them is missing.
     pub started: u64,

@@ -1,7 +1,7 @@
 //! The numbers of a progress line.
 
 /// The numbers that a progress line can show: how many command edges there are of each kind, and the time.
-#[derive(Clone, Copy, Debug, PartialEq, Eq)]
+#[derive(Clone, Copy, PartialEq, Eq)]
 pub struct Numbers {
     /// They have started, or an input of them is missing.
     pub started: u64,

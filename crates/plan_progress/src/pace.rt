@@ -9,7 +9,7 @@ use plan_machine::Mark;
 use std::alloc::{AllocError, Global};
 
 /// The time of a line, and how fast commands finished before it.
-#[derive(Clone, Copy, Debug, PartialEq, Eq)]
+#[derive(Clone, Copy, PartialEq, Eq)]
 pub struct Pace {
     /// The milliseconds since the build began.
     pub elapsed: u64,

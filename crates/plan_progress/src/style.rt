@@ -1,7 +1,7 @@
 //! How the text of a build shows commands.
 
 /// How the text of a build shows a command that ended.
-#[derive(Clone, Copy, Debug, PartialEq, Eq)]
+#[derive(Clone, Copy, PartialEq, Eq)]
 pub enum Style {
     /// By the label of its edge.
     Labels,

@@ -11,7 +11,7 @@ use crate::pace::{Pace, per_ten_seconds};
 use std::alloc::{AllocError, Global};
 
 /// What a placeholder of a template stands for.
-#[derive(Clone, Copy, Debug, PartialEq, Eq)]
+#[derive(Clone, Copy, PartialEq, Eq)]
 pub enum Placeholder {
     /// A percent sign.
     Percent,

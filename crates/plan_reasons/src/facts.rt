@@ -5,7 +5,7 @@ use plan_text::Items;
 use plan_verify::Words;
 
 /// An explicit or an implicit input.
-#[derive(Clone, Copy, Debug, PartialEq, Eq)]
+#[derive(Clone, Copy, PartialEq, Eq)]
 pub enum NamedInput {
     /// A source file.
     SourceFile,

@@ -1,7 +1,7 @@
 //! Reasons why an edge is out of date.
 
 /// Why an edge is dirty. Positions are counted from 0.
-#[derive(Clone, Copy, Debug, PartialEq, Eq)]
+#[derive(Clone, Copy, PartialEq, Eq)]
 pub enum Reason {
     /// An output is missing: its position among the outputs.
     OutputMissing(usize),

@@ -6,7 +6,7 @@ ghost use Rattle.plan_record.specs.declared.fault.EntryFault.TheVariants.{Memory
 use std::alloc::{AllocError, AllocFailed};
 
 /// The reason why some parts form no entry.
-#[derive(Clone, Copy, Debug, PartialEq, Eq)]
+#[derive(Clone, Copy, PartialEq, Eq)]
 pub enum EntryFault {
     /// A path is empty or has more than 4,096 bytes, the command has more than 1,048,576 bytes, there are 2^32
     /// paths or more, or the body has 2^32 bytes or more.

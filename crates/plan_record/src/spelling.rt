@@ -100,7 +100,7 @@ pub(crate) fn spell(
 }
 
 /// A write failed, or a write of some bytes took none of them.
-#[derive(Clone, Copy, Debug, PartialEq, Eq)]
+#[derive(Clone, Copy, PartialEq, Eq)]
 pub struct WriteFault {
     /// The number of bytes of the entry that were written. They are exactly the first ones of its spelling, and
     /// not all.

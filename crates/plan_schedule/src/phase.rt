@@ -5,7 +5,7 @@ ghost use Rattle.plan_schedule.specs.Phases.{AreAlike, has_failed, holds, is_uns
 
 /// The phase of an edge, with as much detail as the schedule needs. A flag says whether the edge holds a job
 /// token.
-#[derive(Clone, Copy, Debug, PartialEq, Eq)]
+#[derive(Clone, Copy, PartialEq, Eq)]
 pub enum Phase {
     /// It has not begun.
     Unbegun,

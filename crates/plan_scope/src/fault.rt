@@ -10,7 +10,7 @@ use plan_text::Items;
 use std::alloc::{AllocError, AllocFailed};
 
 /// The reason why a statement is refused.
-#[derive(Clone, Copy, Debug, PartialEq, Eq)]
+#[derive(Clone, Copy, PartialEq, Eq)]
 pub enum Cause {
     /// 64 files are open already: the statement's own and those that include it.
     IncludeDepth,
@@ -64,7 +64,7 @@ impl Cause {
 }
 
 /// The reason why a manifest can't be loaded or evaluated.
-#[derive(Debug, Drop)]
+#[derive(Drop)]
 pub enum ScopeFault {
     /// The file at this path is missing or can't be read.
     SourceMissing(Items<u8>),

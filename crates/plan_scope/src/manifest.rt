@@ -10,7 +10,7 @@ use crate::edge::edge_list::EdgeList;
 use plan_text::{Items, SmallText};
 
 /// A pool, which limits the number of its edges that run at once.
-#[derive(Debug, Drop)]
+#[derive(Drop)]
 pub struct Pool {
     /// The name by which edges refer to it.
     pub name: Items<u8>,
@@ -19,7 +19,7 @@ pub struct Pool {
 }
 
 /// A target of a `default` statement.
-#[derive(Debug, Drop)]
+#[derive(Drop)]
 pub struct DefaultTarget {
     /// Its canonical path.
     pub path: SmallText,
@@ -28,7 +28,7 @@ pub struct DefaultTarget {
 }
 
 /// The meaning of a tree: its edges, pools and default targets.
-#[derive(Debug, Drop)]
+#[derive(Drop)]
 pub struct Manifest {
     /// One edge for each build line, in their order.
     pub edges: EdgeList,

@@ -4,7 +4,7 @@ use plan_text::SinkFault;
 use std::alloc::{AllocError, AllocFailed};
 
 /// The reason why a text wasn't printed to its end.
-#[derive(Clone, Copy, Debug, PartialEq, Eq)]
+#[derive(Clone, Copy, PartialEq, Eq)]
 pub enum PrintFault {
     /// Memory ran out. A prefix of the text may be printed.
     Memory,

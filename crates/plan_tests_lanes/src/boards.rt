@@ -13,7 +13,7 @@ use std::alloc::Global;
 use std::test::*;
 
 /// The kind of an advance. A job has its edge, the number of its question, and whether a permit came with it.
-#[derive(Clone, Copy, Debug, PartialEq)]
+#[derive(Clone, Copy, PartialEq)]
 enum Told {
     Moved,
     Job(u32, u64, bool),

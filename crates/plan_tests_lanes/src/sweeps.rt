@@ -98,7 +98,7 @@ fn image_of(alloc: Global, count: u32) -> Result<Verified, Refused> {
 }
 
 /// The paths that are answered ahead.
-#[derive(Clone, Copy, Debug, PartialEq)]
+#[derive(Clone, Copy, PartialEq)]
 enum Ahead {
     None,
     All,

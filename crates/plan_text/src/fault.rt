@@ -10,7 +10,7 @@ use std::alloc::{AllocError, AllocFailed};
 ///
 /// An offset counts bytes from 0. It is the offset of the first byte that no rule accepts. Apart from escapes
 /// that the Ninja manual doesn't list, the choice of refused bytes is this project's own.
-#[derive(Clone, Copy, Debug, PartialEq, Eq)]
+#[derive(Clone, Copy, PartialEq, Eq)]
 pub enum TextFault {
     /// A tab that is in a path, or between the spaces that begin a line and its first word. In a comment or a
     /// value, a tab is an ordinary byte. Holds the offset of the tab.

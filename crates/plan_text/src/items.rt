@@ -7,7 +7,7 @@ use std::marker::Model;
 
 /// A vector of values. A contract sees it as the list of the values, so types that hold an `Items` are compared
 /// by these values.
-#[derive(Debug, Drop)]
+#[derive(Drop)]
 pub struct Items<T> {
     held: Vec<T>,
 }

@@ -15,7 +15,7 @@ use std::alloc::Global;
 
 /// A logical line that is neither blank nor a comment. Offsets and counts are in bytes. Offsets count from 0 at
 /// the start of the text.
-#[derive(Clone, Copy, Debug, PartialEq, Eq)]
+#[derive(Clone, Copy, PartialEq, Eq)]
 pub struct Line {
     /// The number of spaces that it begins with.
     pub indent: u32,

@@ -9,7 +9,7 @@ use std::alloc::{AllocError, Global};
 use std::marker::Model;
 
 /// The storage of pieces.
-#[derive(Debug, Drop)]
+#[derive(Drop)]
 enum Held {
     /// A single piece, stored inline.
     One([Piece; 1]),
@@ -19,7 +19,7 @@ enum Held {
 
 /// The pieces of a path or a value. If it is created from a single piece, it takes no allocation. A contract
 /// sees it as the list of the pieces.
-#[derive(Debug, Drop)]
+#[derive(Drop)]
 pub struct PieceList {
     held: Held,
 }

@@ -17,7 +17,7 @@ use std::alloc::{AllocError, Global};
 use std::mem;
 
 /// The kind of text that is read, which decides whether a tab is refused. This is this project's own choice.
-#[derive(Clone, Copy, Debug, PartialEq, Eq)]
+#[derive(Clone, Copy, PartialEq, Eq)]
 pub enum Mode {
     /// A path, in which a tab is refused.
     Path,
@@ -26,7 +26,7 @@ pub enum Mode {
 }
 
 /// A piece of a path or a value.
-#[derive(Debug, Drop)]
+#[derive(Drop)]
 pub enum Piece {
     /// The bytes of the path or value, with escapes replaced by their meaning. Two literals are never adjacent.
     Literal(SmallText),

@@ -9,7 +9,7 @@ use std::marker::Model;
 ///
 /// The rows are stored consecutively in one vector, so a row takes its items and four bytes. A push that would
 /// bring the number of all items above 4,294,967,295 fails as if memory had run out.
-#[derive(Debug, Drop)]
+#[derive(Drop)]
 pub struct RowList<T> {
     items: Vec<T>,
     /// The end of each row, as an index into `items`.

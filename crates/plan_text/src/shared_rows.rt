@@ -9,7 +9,7 @@ use std::marker::Model;
 use std::sync::Arc;
 
 /// The location of a row in some bytes.
-#[derive(Clone, Copy, Debug)]
+#[derive(Clone, Copy)]
 pub struct Place {
     /// The index of its first byte, counted from 0.
     pub start: u32,

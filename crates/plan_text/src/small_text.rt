@@ -6,7 +6,7 @@ use std::alloc::{AllocError, Global};
 use std::marker::Model;
 
 /// The storage of the bytes of a text.
-#[derive(Debug, Drop)]
+#[derive(Drop)]
 enum Held {
     /// Inline, in the value itself.
     Inline(Front),
@@ -15,7 +15,7 @@ enum Held {
 }
 
 /// The bytes of a text. Up to 30 bytes take no allocation. A contract sees it as the list of the bytes.
-#[derive(Debug, Drop)]
+#[derive(Drop)]
 pub struct SmallText {
     held: Held,
 }
@@ -86,7 +86,7 @@ impl SmallText {
 const ROOM: usize = 30;
 
 /// Up to `ROOM` bytes, stored at the front of an array. A contract sees it as the list of the bytes.
-#[derive(Debug, Drop)]
+#[derive(Drop)]
 pub struct Front {
     len: u8,
     array: [u8; ROOM],

@@ -1,7 +1,7 @@
 //! Why a listing is not written to its end.
 
 /// Why a listing is not written to its end.
-#[derive(Clone, Copy, Debug, PartialEq, Eq)]
+#[derive(Clone, Copy, PartialEq, Eq)]
 pub enum TreeFault {
     /// Memory ran out.
     Memory,

@@ -3,7 +3,7 @@
 use std::alloc::{AllocError, AllocFailed};
 
 /// The reason why a text is no trace.
-#[derive(Clone, Copy, Debug, PartialEq, Eq)]
+#[derive(Clone, Copy, PartialEq, Eq)]
 pub enum TraceFault {
     /// A line is not allowed at its place. Holds its number, counted from 1.
     BadTrace(u64),

@@ -336,7 +336,7 @@ pub(crate) fn refusal_at(
 }
 
 /// The number of an edge's own slots, and whether one of them has a kind of paths.
-#[derive(Clone, Copy, Debug)]
+#[derive(Clone, Copy)]
 pub(crate) struct OwnSlots {
     pub count: usize,
     pub has_paths: bool,

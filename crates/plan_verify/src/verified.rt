@@ -16,7 +16,7 @@ use std::marker::Model;
 use std::thread::Threads;
 
 /// An image that is well shaped.
-#[derive(Debug, Drop)]
+#[derive(Drop)]
 pub struct Verified {
     image: Image,
     /// The budget, if the verifier computed it.

@@ -9,7 +9,7 @@ use std::alloc::{AllocError, AllocFailed, Global};
 use std::rt::Files;
 
 /// The reason why a tool is refused.
-#[derive(Debug, Drop)]
+#[derive(Drop)]
 pub enum ToolFault {
     /// Memory ran out.
     Memory,

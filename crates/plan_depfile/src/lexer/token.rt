@@ -1,7 +1,7 @@
 //! The tokens that the bytes of a depfile form.
 
 /// A token of a depfile.
-#[derive(Clone, Copy, Debug, PartialEq, Eq)]
+#[derive(Clone, Copy, PartialEq, Eq)]
 pub enum Token {
     /// A byte of a word.
     Byte(u8),

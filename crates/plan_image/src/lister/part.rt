@@ -6,7 +6,7 @@ ghost use Rattle.plan_text.specs.Sinks.{Writes};
 use plan_text::{Sink, SinkFault, write_all, writes_join};
 
 /// A failed write.
-#[derive(Clone, Copy, Debug, PartialEq, Eq)]
+#[derive(Clone, Copy, PartialEq, Eq)]
 pub struct WriteFault;
 
 impl From<SinkFault> for WriteFault {

@@ -7,14 +7,14 @@ use crate::fault::Cause;
 use std::alloc::{AllocError, AllocFailed};
 
 /// The place at which a reader stops: the cause, and the number of bytes that are left.
-#[derive(Clone, Copy, Debug, PartialEq, Eq)]
+#[derive(Clone, Copy, PartialEq, Eq)]
 pub(crate) struct Stop {
     pub cause: Cause,
     pub left: usize,
 }
 
 /// The reason why reading a part fails.
-#[derive(Debug, Drop)]
+#[derive(Drop)]
 pub(crate) enum ReadFault {
     Memory,
     Stop(Stop),

@@ -234,7 +234,7 @@ pub(crate) fn has_command(parts: &Parts, edge: u32) -> bool
 }
 
 /// The effect of a step on an edge.
-#[derive(Clone, Copy, Debug)]
+#[derive(Clone, Copy)]
 pub(crate) enum Turned {
     Moved,
     /// It set a slot.
@@ -259,7 +259,7 @@ impl Turned {
 }
 
 /// The effect of a reply on an edge: it goes on, it failed, or the reply doesn't match its question.
-#[derive(Clone, Copy, Debug)]
+#[derive(Clone, Copy)]
 pub(crate) enum Heard {
     On,
     Failed(Cause),

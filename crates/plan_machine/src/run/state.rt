@@ -330,7 +330,7 @@ impl State {
 }
 
 /// The most edges that may hold a job token at once (1 to 64), and the failure limit (0 means no limit).
-#[derive(Clone, Copy, Debug)]
+#[derive(Clone, Copy)]
 pub struct Options {
     jobs: u8,
     keep: u32,

@@ -12,7 +12,7 @@ use crate::plan::Plan;
 use crate::schedule::Schedule;
 
 /// An event that can happen next without a reply from outside.
-#[derive(Clone, Copy, Debug, PartialEq, Eq)]
+#[derive(Clone, Copy, PartialEq, Eq)]
 pub enum Pick {
     /// An edge begins.
     Start(u32),

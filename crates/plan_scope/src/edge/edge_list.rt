@@ -15,7 +15,7 @@ use std::marker::Model;
 /// The edges of a manifest in the order of their build lines. Contracts see a list of edges. The paths and the texts of
 /// all edges share rows: an edge takes 44 bytes, and 4 bytes for each path and each text that isn't empty, in addition
 /// to the bytes of its paths and texts. Chunks that long texts share are held once.
-#[derive(Debug, Drop)]
+#[derive(Drop)]
 pub struct EdgeList {
     rows: EdgeRows,
 }
@@ -169,7 +169,7 @@ impl<'a> EdgeRef<'a> {
 }
 
 /// The places of an edge's paths and texts in the rows of all edges, and the edge's flags.
-#[derive(Clone, Copy, Debug, Drop)]
+#[derive(Clone, Copy, Drop)]
 pub struct EdgeMarks {
     /// The places of its paths.
     pub paths: PathPlaces,
@@ -190,7 +190,7 @@ pub struct EdgeMarks {
 }
 
 /// Edges in their order. The rows of their paths and texts are shared by all edges.
-#[derive(Debug, Drop)]
+#[derive(Drop)]
 pub struct EdgeRows {
     /// The paths of all edges.
     pub paths: PathRows,
@@ -221,7 +221,7 @@ impl EdgeRows {
 }
 
 /// The places of an edge's lists of paths in the rows of all edges. Each list ends where the next one begins.
-#[derive(Clone, Copy, Debug, Drop)]
+#[derive(Clone, Copy, Drop)]
 pub struct PathPlaces {
     /// The number of the first explicit output.
     pub outputs: u32,

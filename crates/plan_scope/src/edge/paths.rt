@@ -165,7 +165,7 @@ fn push_form(alloc: Global, rows: &mut RowList<u8>, path: &[u8]) -> Result<(), A
 }
 
 /// The canonical paths of all build lines so far, and flags of the paths of the last line.
-#[derive(Debug, Drop)]
+#[derive(Drop)]
 pub struct PathRows {
     /// The canonical paths.
     pub rows: RowList<u8>,

@@ -18,7 +18,7 @@ const LONG_TEXT: usize = 4_096;
 
 /// A list of texts. Contracts see it as a list. A short text is a row. A long text is cut into chunks, and equal chunks
 /// of all texts are held once unless hashes collide.
-#[derive(Debug, Drop)]
+#[derive(Drop)]
 pub struct TextList {
     /// The bytes of each short text. The row of a long text is empty.
     rows: RowList<u8>,
@@ -129,7 +129,7 @@ impl TextList {
 }
 
 /// A pool of buffers of texts that are no longer needed, reused for later texts. Their contents don't matter.
-#[derive(Debug, Drop)]
+#[derive(Drop)]
 pub struct TextPool {
     texts: Vec<Vec<u8>>,
 }

@@ -12,7 +12,7 @@ use crate::manifest::Manifest;
 use plan_text::{Sink, SinkFault, write_all, writes_join};
 
 /// A write to the sink failed.
-#[derive(Clone, Copy, Debug, PartialEq, Eq)]
+#[derive(Clone, Copy, PartialEq, Eq)]
 pub struct WriteFault;
 
 impl From<SinkFault> for WriteFault {
