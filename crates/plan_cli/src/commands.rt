@@ -135,6 +135,14 @@ fn verify_command<'a>(alloc: Global) -> Result<Command<'a>, AllocError> {
     file_command(alloc, "verify", about, ("IMG", IMAGE_HELP))
 }
 
+/// Adds a subcommand to a command if both could be created.
+fn with_subcommand<'a>(
+    command: Result<Command<'a>, AllocError>,
+    added: Result<Command<'a>, AllocError>,
+) -> Result<Command<'a>, AllocError> {
+    command?.subcommand(added?)
+}
+
 /// Creates the program's command with all of its subcommands and their arguments.
 pub fn program_command<'a>(alloc: Global) -> Result<Command<'a>, AllocError> {
     let program = Command::new(alloc, "plan_ninja")
@@ -142,12 +150,12 @@ pub fn program_command<'a>(alloc: Global) -> Result<Command<'a>, AllocError> {
         .version(VERSION)
         .subcommand_required(true)
         .arg_required_else_help(true);
-    let program = program.subcommand(commands_command(alloc)?)?;
-    let program = program.subcommand(compile_command(alloc)?)?;
-    let program = program.subcommand(dump_command(alloc)?)?;
-    let program = program.subcommand(run_command(alloc, IMAGE_HELP)?)?;
-    let program = program.subcommand(replay_command(alloc)?)?;
-    program.subcommand(verify_command(alloc)?)
+    let program = with_subcommand(Ok(program), commands_command(alloc));
+    let program = with_subcommand(program, compile_command(alloc));
+    let program = with_subcommand(program, dump_command(alloc));
+    let program = with_subcommand(program, run_command(alloc, IMAGE_HELP));
+    let program = with_subcommand(program, replay_command(alloc));
+    with_subcommand(program, verify_command(alloc))
 }
 
 /// The request of `run`.

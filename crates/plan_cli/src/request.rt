@@ -2,7 +2,7 @@
 
 use crate::commands::{RunWords, program_command, run_words};
 use clap::error::ErrorKind;
-use clap::{ArgMatches, Error};
+use clap::{ArgMatches, Command, Error};
 use std::alloc::{AllocError, Global};
 use std::rt::Env;
 use std::{env, io};
@@ -120,14 +120,23 @@ fn found_request<'a>(
     }
 }
 
-/// Parses the words by clap and returns their request.
-fn parse<'a>(alloc: Global, words: &'a [String]) -> Result<Request<'a>, Error> {
-    let mut command = program_command(alloc)?;
+/// Parses the words by a command of clap and returns their request.
+fn request_by<'a>(
+    alloc: Global,
+    command: &mut Command<'a>,
+    words: &'a [String],
+) -> Result<Request<'a>, Error> {
     let matches = command.try_get_matches_from_mut(words)?;
     match found_request(alloc, &matches)? {
         Some(request) => Ok(request),
         None => Err(command.error(ErrorKind::MissingRequiredArgument, "a file is missing")?),
     }
+}
+
+/// Parses the words by clap and returns their request.
+fn parse<'a>(alloc: Global, words: &'a [String]) -> Result<Request<'a>, Error> {
+    let mut command = program_command(alloc)?;
+    request_by(alloc, &mut command, words)
 }
 
 /// Returns the request of the words of the command line, which begin with the program's own name.

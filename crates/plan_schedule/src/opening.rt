@@ -200,11 +200,11 @@ pub fn open(alloc: Global, plan: &Plan, wanted: &[bool]) -> Result<Schedule, All
     let phases = phases_of(alloc, wanted)?;
     let waiting = waiting_of(alloc, &plan.waits)?;
     let failed_wait = no_failed_waits(alloc, wanted.len())?;
-    let buckets = fill_buckets(alloc, &plan.pools, pools, wanted, &waiting)?;
-    let pool_buckets = fill_pool_buckets(alloc, pools)?;
-    let open_edges = open_count(&phases);
     let pool_holders = zeros(alloc, pools)?;
+    let open_edges = open_count(&phases);
     let ready = ReadyQueues::open(alloc, plan)?;
+    let pool_buckets = fill_pool_buckets(alloc, pools)?;
+    let buckets = fill_buckets(alloc, &plan.pools, pools, wanted, &waiting)?;
     Ok(Schedule {
         phases,
         waiting,

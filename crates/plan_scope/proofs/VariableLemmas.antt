@@ -1,9 +1,10 @@
 -- Variables with equal kept texts, and the edges that they give. Used for src/edge/variables.rt and
 -- src/edge/build_line.rt.
-use Rattle.std.proofs.Common.{◌≡◌, ℕ, zero, suc, Bool, true, false, not, ◌||◌, ◌&&◌, ◌<◌, List, [], ◌∷◌, length, map, Option, Some, None, Result, Ok, Err, refl, ap, sym, ◌∙◌, bytes_eq, option_map, cond, inl, inr, arith, subst}
+use Rattle.std.proofs.Common.{◌≡◌, ℕ, zero, suc, Bool, true, false, not, ◌||◌, ◌&&◌, ◌<◌, List, [], ◌∷◌, length, map, Option, Some, None, Result, Ok, Err, refl, ap, sym, ◌∙◌, bytes_eq, option_map, cond, inl, inr, arith, subst, IfOk}
 use Rattle.std.specs.Prelude.{codes, is_none}
 use Rattle.std.specs.List.{list_any, join_with_byte}
 use Rattle.std.proofs.lemmas.Bool.{lt-ltb, ltb-false}
+use Rattle.std.proofs.lemmas.Result.{IfOk-weaker}
 use Rattle.std.proofs.lemmas.Slice.Eq.{bytes_eq-Decides}
 use Rattle.plan_text.specs.declared.piece_reader.Piece.{Piece}
 use Rattle.plan_text.specs.declared.piece_reader.Piece.TheVariants.{Literal, Reference}
@@ -29,6 +30,12 @@ e ∷≡ f = cc
 -- A test of one more item.
 pub also : (t u w c : Bool) → t ≡ (u || c) → u ≡ w → t ≡ (w || c)
 also t u w c e f = e ∙ ap (λ x. x || c) f
+
+-- Variables that were checked for memory mean what they mean if memory was sufficient.
+pub checked_are : {E : Type 0} (r : Result Variables E) (variables meant : Variables) (has_memory : Bool) → IfOk r (λ v. (v ≡ variables) × (has_memory ≡ true))
+    → (has_memory ≡ true → KeptEqVariables variables meant) → IfOk r (λ v. KeptEqVariables v meant)
+checked_are r variables meant has_memory checked means =
+    IfOk-weaker r _ _ (λ v is. subst (λ (w : Variables). KeptEqVariables w meant) (sym is.0) (means is.1)) checked
 
 -- Two tests with the same result.
 pub or_both : (a b c d : Bool) → a ≡ c → b ≡ d → (a || b) ≡ (c || d)

@@ -191,9 +191,34 @@ pub fn push_edge<'a>(
     let parts = Parts { block, read };
     let environment = environment_with(&parts, &*rule, file);
     let variables = variables_of_rule(alloc, &environment, compiled, &mut edges.spare)?;
-    let marks = marks_or_refusal(pools, &parts, places, &variables, false, &mut edges.texts)?;
-    edges.marks.push(marks)?;
+    let marks = marks_or_refusal(pools, &parts, places, &variables, false, &mut edges.texts);
     keep_room(variables, &mut edges.spare);
+    edges.marks.push(marks?)?;
+    Ok(())
+}
+
+/// Adds the edge of a phony build line, given a rule without lines.
+fn push_edge_without_lines<'a>(
+    alloc: Global,
+    pools: &PoolNames<'a>,
+    here: Scope<'a>,
+    file: Scope<'a>,
+    rule: &'a RuleVariables<'a>,
+    build: &BuildLine<'a>,
+    edges: &mut EdgeRows,
+) -> Result<(), StatementFault>
+    requires { rule.now ≡ [] }
+    ensures edge { (names : List Name) (h f : Name → Text) → EqNames pools.now names → KeptEqLookup (names_in here.entry) h → KeptEqLookup (names_in file.entry) f → AreWithin edges.old → GivesEdge edges.old edges.new result (edge_or_refusal names h build.now (phony_variables (environment_of h f build.now [])) true) }
+    ensures count { OnOk result (length edges.new.marks.items ≡ length edges.old.marks.items + 1) }
+{
+    let (block, places) = read_parts(alloc, here, build, &mut edges.paths)?;
+    let read = PathTexts::new(&edges.paths, places);
+    let parts = Parts { block, read };
+    let environment = environment_with(&parts, &*rule, file);
+    let variables = variables_of_phony(alloc, &environment, &mut edges.spare)?;
+    let marks = marks_or_refusal(pools, &parts, places, &variables, true, &mut edges.texts);
+    keep_room(variables, &mut edges.spare);
+    edges.marks.push(marks?)?;
     Ok(())
 }
 
@@ -209,14 +234,6 @@ pub fn push_phony_edge<'a>(
     ensures edge { (names : List Name) (h f : Name → Text) → EqNames pools.now names → KeptEqLookup (names_in here.entry) h → KeptEqLookup (names_in file.entry) f → AreWithin edges.old → GivesEdge edges.old edges.new result (edge_or_refusal names h build.now (phony_variables (environment_of h f build.now [])) true) }
     ensures count { OnOk result (length edges.new.marks.items ≡ length edges.old.marks.items + 1) }
 {
-    let (block, places) = read_parts(alloc, here, build, &mut edges.paths)?;
-    let read = PathTexts::new(&edges.paths, places);
-    let parts = Parts { block, read };
     let rule = RuleVariables::empty(alloc);
-    let environment = environment_with(&parts, &rule, file);
-    let variables = variables_of_phony(alloc, &environment, &mut edges.spare)?;
-    let marks = marks_or_refusal(pools, &parts, places, &variables, true, &mut edges.texts)?;
-    edges.marks.push(marks)?;
-    keep_room(variables, &mut edges.spare);
-    Ok(())
+    push_edge_without_lines(alloc, &*pools, here, file, &rule, &*build, edges)
 }

@@ -68,7 +68,7 @@ pub enum CompiledRule<'a> {
     Met,
     /// The parts of its variables, for the edges whose blocks bind no variable of the rule.
     Whole(RuleParts<'a>),
-    /// The rule isn't compiled: a variable has a cycle, too many parts, or too many nested variables.
+    /// The rule isn't compiled: a variable has a cycle, too many parts, or too many nested variables, or memory ran out.
     Unknown,
 }
 
@@ -273,21 +273,24 @@ fn add_pieces<'a>(
     Ok(true)
 }
 
-/// Compiles a variable of a rule for a file. Sets `is_whole` to `false` if parts are missing.
+/// Compiles a variable of a rule for a file. Sets `is_whole` to `false` if parts are missing, also because memory runs
+/// out.
 fn compile_variable<'a>(
     alloc: Global,
     rule: &RuleVariables<'a>,
     file: Scope<'a>,
     name: &'a [u8],
     is_whole: &mut bool,
-) -> Result<Vec<VariablePart<'a>>, AllocError>
-    ensures { IfOk result (λ parts. is_whole.new ≡ true → (is_whole.old ≡ true) × IsCompiled rule.now (names_in file.entry) name.now parts.items) }
+) -> Vec<VariablePart<'a>>
+    ensures { is_whole.new ≡ true → (is_whole.old ≡ true) × IsCompiled rule.now (names_in file.entry) name.now result.items }
 {
     let mut parts = Vec::new(alloc);
     let left = depth_limit(rule.len());
-    let is_all = add_variable(rule, file, left, name, &mut parts)?;
-    *is_whole = *is_whole & is_all;
-    Ok(parts)
+    match add_variable(rule, file, left, name, &mut parts) {
+        Ok(is_all) => *is_whole = *is_whole & is_all,
+        Err(_) => *is_whole = false,
+    }
+    parts
 }
 
 /// Compiles a rule for a file. Returns `Unknown` if parts of a variable are missing.
@@ -295,25 +298,25 @@ pub fn compile_rule<'a>(
     alloc: Global,
     rule: &RuleVariables<'a>,
     file: Scope<'a>,
-) -> Result<CompiledRule<'a>, AllocError>
-    ensures { IfOk result (λ compiled. IsCompiledRule rule.now (names_in file.entry) compiled) }
+) -> CompiledRule<'a>
+    ensures { IsCompiledRule rule.now (names_in file.entry) result }
 {
     let mut is_whole = true;
     let parts = RuleParts {
-        command: compile_variable(alloc, rule, file, b"command", &mut is_whole)?,
-        depfile: compile_variable(alloc, rule, file, b"depfile", &mut is_whole)?,
-        deps: compile_variable(alloc, rule, file, b"deps", &mut is_whole)?,
-        description: compile_variable(alloc, rule, file, b"description", &mut is_whole)?,
-        dyndep: compile_variable(alloc, rule, file, b"dyndep", &mut is_whole)?,
-        generator: compile_variable(alloc, rule, file, b"generator", &mut is_whole)?,
-        pool: compile_variable(alloc, rule, file, b"pool", &mut is_whole)?,
-        restat: compile_variable(alloc, rule, file, b"restat", &mut is_whole)?,
-        rspfile: compile_variable(alloc, rule, file, b"rspfile", &mut is_whole)?,
+        command: compile_variable(alloc, rule, file, b"command", &mut is_whole),
+        depfile: compile_variable(alloc, rule, file, b"depfile", &mut is_whole),
+        deps: compile_variable(alloc, rule, file, b"deps", &mut is_whole),
+        description: compile_variable(alloc, rule, file, b"description", &mut is_whole),
+        dyndep: compile_variable(alloc, rule, file, b"dyndep", &mut is_whole),
+        generator: compile_variable(alloc, rule, file, b"generator", &mut is_whole),
+        pool: compile_variable(alloc, rule, file, b"pool", &mut is_whole),
+        restat: compile_variable(alloc, rule, file, b"restat", &mut is_whole),
+        rspfile: compile_variable(alloc, rule, file, b"rspfile", &mut is_whole),
     };
     if is_whole {
-        return Ok(CompiledRule::Whole(parts));
+        return CompiledRule::Whole(parts);
     }
-    Ok(CompiledRule::Unknown)
+    CompiledRule::Unknown
 }
 
 /// The variables of a rule, not expanded yet.

@@ -7,12 +7,12 @@ ghost use Rattle.plan_scope.specs.Expansion.{Known, listed, meaning_of, variable
 ghost use Rattle.plan_scope.specs.Edges.{is_other_deps, is_present, phony_variables, text_of_variable, texts_of_variables, variables_of, is_among, pools_in, pools_of};
 ghost use Rattle.plan_scope.specs.Kept.{kept, KeptEqVariables, EqNames};
 ghost use Rattle.plan_scope.specs.HeldEnvironment.{environment_of};
-ghost use Rattle.plan_scope.specs.Compiled.{AreCompiled, IsCompiledRule, LeavesRule};
+ghost use Rattle.plan_scope.specs.Compiled.{AreCompiled, IsCompiledRule, LeavesRule, text_of_parts};
 ghost use Rattle.plan_scope.specs.Memo.{IsMemo};
 ghost use Rattle.plan_scope.specs.ShellQuoting.{quoted_as};
 ghost use Rattle.plan_parse.specs.Compact.{kind_of};
 
-use crate::edge::compiled::{CompiledRule, RuleParts, text_of_parts};
+use crate::edge::compiled::{CompiledRule, RuleParts, VariablePart, text_of_parts};
 use crate::edge::expansion::{EdgeEnvironment, MemoEntry, append_whole};
 use crate::edge::text_list::TextPool;
 use crate::fault::StatementFault;
@@ -58,6 +58,8 @@ struct Findings<'a> {
     memo: Vec<MemoEntry<'a>>,
     /// Whether the expansion of a variable meets a name that is being expanded already.
     has_cycle: bool,
+    /// Whether memory was sufficient for each of the texts. If not, the findings say nothing.
+    has_memory: bool,
 }
 
 /// Checks, without a lookup in the file, whether nothing binds a name. `false` means that something may bind it.
@@ -85,11 +87,12 @@ fn no_findings<'a>(alloc: Global) -> Findings<'a>
     Findings {
         memo: Vec::new(alloc),
         has_cycle: false,
+        has_memory: true,
     }
 }
 
 /// Expands a variable of an edge. If the expansion meets a name that is being expanded already, returns an empty text
-/// and sets `has_cycle` in the findings.
+/// and sets `has_cycle` in the findings. If memory runs out, returns an empty text and clears `has_memory`.
 fn variable<'a>(
     alloc: Global,
     edge: &'a EdgeEnvironment<'a>,
@@ -97,25 +100,39 @@ fn variable<'a>(
     found: &mut Findings<'a>,
     name: &'a [u8],
     spare: &mut TextPool,
-) -> Result<Items<u8>, AllocError>
+) -> Items<u8>
     requires unlisted { listed (quoted_as quoting) (environment_of edge.now) name.now ≡ None }
     requires memo { IsMemo (meaning_of (quoted_as quoting) (environment_of edge.now)) found.old.memo.items }
     ensures memo { IsMemo (meaning_of (quoted_as quoting) (environment_of edge.now)) found.new.memo.items }
-    ensures text { IfOk result (λ text. kept text ≡ kept (text_of_variable (quoted_as quoting) (environment_of edge.now) name.now)) }
-    ensures cycle { OnOk result (found.new.has_cycle ≡ (found.old.has_cycle || is_none (variable (quoted_as quoting) (environment_of edge.now) name.now))) }
+    ensures memory { found.new.has_memory ≡ true → found.old.has_memory ≡ true }
+    ensures text { found.new.has_memory ≡ true → kept result ≡ kept (text_of_variable (quoted_as quoting) (environment_of edge.now) name.now) }
+    ensures cycle { found.new.has_memory ≡ true → found.new.has_cycle ≡ (found.old.has_cycle || is_none (variable (quoted_as quoting) (environment_of edge.now) name.now)) }
 {
     if is_unbound(edge, name) {
-        return Ok(Items::empty(alloc));
+        return Items::empty(alloc);
     }
     let mut text = spare.take(alloc);
     match append_whole(alloc, edge, quoting, &mut found.memo, name, &mut text) {
-        Ok(()) => Ok(Items::new(text)),
+        Ok(()) => Items::new(text),
         Err(StatementFault::Refused(_)) => {
             found.has_cycle = true;
-            Ok(Items::empty(alloc))
+            Items::empty(alloc)
         }
-        Err(StatementFault::Memory) => Err(AllocError),
+        Err(StatementFault::Memory) => {
+            found.has_memory = false;
+            Items::empty(alloc)
+        }
     }
+}
+
+/// Returns variables if memory was sufficient for all of their texts.
+fn checked(variables: Variables, has_memory: bool) -> Result<Variables, AllocError>
+    ensures { IfOk result (λ v. (v ≡ variables) × (has_memory ≡ true)) }
+{
+    if has_memory {
+        return Ok(variables);
+    }
+    Err(AllocError)
 }
 
 /// Expands the variables of an edge with a rule. Paths in its command and its description are quoted.
@@ -128,18 +145,39 @@ fn expanded_variables<'a>(
 {
     let mut plain = no_findings(alloc);
     let mut quoted = no_findings(alloc);
-    Ok(Variables {
-        command: variable(alloc, edge, Shell, &mut quoted, b"command", spare)?,
-        depfile: variable(alloc, edge, Plain, &mut plain, b"depfile", spare)?,
-        deps: variable(alloc, edge, Plain, &mut plain, b"deps", spare)?,
-        description: variable(alloc, edge, Shell, &mut quoted, b"description", spare)?,
-        dyndep: variable(alloc, edge, Plain, &mut plain, b"dyndep", spare)?,
-        generator: variable(alloc, edge, Plain, &mut plain, b"generator", spare)?,
-        pool: variable(alloc, edge, Plain, &mut plain, b"pool", spare)?,
-        restat: variable(alloc, edge, Plain, &mut plain, b"restat", spare)?,
-        rspfile: variable(alloc, edge, Plain, &mut plain, b"rspfile", spare)?,
+    let variables = Variables {
+        command: variable(alloc, edge, Shell, &mut quoted, b"command", spare),
+        depfile: variable(alloc, edge, Plain, &mut plain, b"depfile", spare),
+        deps: variable(alloc, edge, Plain, &mut plain, b"deps", spare),
+        description: variable(alloc, edge, Shell, &mut quoted, b"description", spare),
+        dyndep: variable(alloc, edge, Plain, &mut plain, b"dyndep", spare),
+        generator: variable(alloc, edge, Plain, &mut plain, b"generator", spare),
+        pool: variable(alloc, edge, Plain, &mut plain, b"pool", spare),
+        restat: variable(alloc, edge, Plain, &mut plain, b"restat", spare),
+        rspfile: variable(alloc, edge, Plain, &mut plain, b"rspfile", spare),
         has_cycle: quoted.has_cycle | plain.has_cycle,
-    })
+    };
+    checked(variables, quoted.has_memory & plain.has_memory)
+}
+
+/// Returns the text of parts in an edge. If memory runs out, returns an empty text and clears `has_memory`.
+fn text_or_empty<'a>(
+    alloc: Global,
+    edge: &EdgeEnvironment<'a>,
+    quoting: Quoting,
+    parts: &[VariablePart],
+    spare: &mut TextPool,
+    has_memory: &mut bool,
+) -> Items<u8>
+    ensures { has_memory.new ≡ true → (has_memory.old ≡ true) × (kept result ≡ kept (text_of_parts (quoted_as quoting) (environment_of edge.now) parts.now)) }
+{
+    match text_of_parts(alloc, edge, quoting, parts, spare) {
+        Ok(text) => text,
+        Err(_) => {
+            *has_memory = false;
+            Items::empty(alloc)
+        }
+    }
 }
 
 /// Returns the same variables as `expanded_variables`, from the compiled parts of the rule.
@@ -153,18 +191,20 @@ fn compiled_variables<'a>(
     requires left { LeavesRule (environment_of edge.now).rule (environment_of edge.now).block }
     ensures { IfOk result (λ v. KeptEqVariables v (variables_of (environment_of edge.now))) }
 {
-    Ok(Variables {
-        command: text_of_parts(alloc, edge, Shell, &parts.command, spare)?,
-        depfile: text_of_parts(alloc, edge, Plain, &parts.depfile, spare)?,
-        deps: text_of_parts(alloc, edge, Plain, &parts.deps, spare)?,
-        description: text_of_parts(alloc, edge, Shell, &parts.description, spare)?,
-        dyndep: text_of_parts(alloc, edge, Plain, &parts.dyndep, spare)?,
-        generator: text_of_parts(alloc, edge, Plain, &parts.generator, spare)?,
-        pool: text_of_parts(alloc, edge, Plain, &parts.pool, spare)?,
-        restat: text_of_parts(alloc, edge, Plain, &parts.restat, spare)?,
-        rspfile: text_of_parts(alloc, edge, Plain, &parts.rspfile, spare)?,
+    let mut enough = true;
+    let variables = Variables {
+        command: text_or_empty(alloc, edge, Shell, &parts.command, spare, &mut enough),
+        depfile: text_or_empty(alloc, edge, Plain, &parts.depfile, spare, &mut enough),
+        deps: text_or_empty(alloc, edge, Plain, &parts.deps, spare, &mut enough),
+        description: text_or_empty(alloc, edge, Shell, &parts.description, spare, &mut enough),
+        dyndep: text_or_empty(alloc, edge, Plain, &parts.dyndep, spare, &mut enough),
+        generator: text_or_empty(alloc, edge, Plain, &parts.generator, spare, &mut enough),
+        pool: text_or_empty(alloc, edge, Plain, &parts.pool, spare, &mut enough),
+        restat: text_or_empty(alloc, edge, Plain, &parts.restat, spare, &mut enough),
+        rspfile: text_or_empty(alloc, edge, Plain, &parts.rspfile, spare, &mut enough),
         has_cycle: false,
-    })
+    };
+    checked(variables, enough)
 }
 
 /// Returns the variables of an edge with a rule. Uses the compiled parts of the rule if there are any and the edge's
@@ -195,19 +235,19 @@ pub fn variables_of_phony<'a>(
     ensures { IfOk result (λ v. KeptEqVariables v (phony_variables (environment_of edge.now))) }
 {
     let mut plain = no_findings(alloc);
-    let dyndep = variable(alloc, edge, Plain, &mut plain, b"dyndep", spare)?;
-    Ok(Variables {
+    let variables = Variables {
         command: Items::empty(alloc),
         depfile: Items::empty(alloc),
         deps: Items::empty(alloc),
         description: Items::empty(alloc),
-        dyndep,
+        dyndep: variable(alloc, edge, Plain, &mut plain, b"dyndep", spare),
         generator: Items::empty(alloc),
         pool: Items::empty(alloc),
         restat: Items::empty(alloc),
         rspfile: Items::empty(alloc),
         has_cycle: plain.has_cycle,
-    })
+    };
+    checked(variables, plain.has_memory)
 }
 
 /// Checks whether the text of a variable isn't empty.

@@ -100,7 +100,6 @@ fn edge_count(tree: &Tree) -> Result<usize, AllocError>
 fn initial_evaluation<'a>(alloc: Global, edges: usize) -> Result<Evaluation<'a>, AllocError>
     ensures { IfOk result (λ e. Fits e [] × (manifest_in e ≡ pool_alone console)) }
 {
-    let edges = EdgeRows::new(alloc, edges)?;
     let mut pool_names = PoolNames::new(alloc);
     pool_names.insert(CONSOLE)?;
     let mut pools = Vec::new(alloc);
@@ -108,6 +107,7 @@ fn initial_evaluation<'a>(alloc: Global, edges: usize) -> Result<Evaluation<'a>,
         name: copy_of(alloc, CONSOLE)?,
         depth: 1,
     })?;
+    let edges = EdgeRows::new(alloc, edges)?;
     Ok(Evaluation {
         bound: ScopedMap::new(alloc),
         rules: ScopedMap::new(alloc),
@@ -161,7 +161,7 @@ fn add_edge_of_met_rule<'b, 'a>(
     ensures count { OnOk result (length edges.new.marks.items ≡ length edges.old.marks.items + 1) }
     ensures found { OnOk result ((rules : ScopedBindings (Bindings (List Piece))) → nearest rules file.entry.scopes.now build.now.rule ≡ Some rule.now → AreFound rules file.entry.bound.now found.old.items → AreFound rules file.entry.bound.now found.new.items) }
 {
-    let compiled = compile_rule(alloc, &*rule, file)?;
+    let compiled = compile_rule(alloc, &*rule, file);
     let added = push_edge(
         alloc, &*pools, here, file, &*rule, &compiled, &*build, edges,
     );

@@ -2,15 +2,15 @@ use Rattle.plan_scope.proofs.edge.compiled.compile_rule.Goals as goal
 
 pub returns-then-is_whole : goal.returns-then-is_whole
 returns-then-is_whole c =
-    let rspfile = c.in_ok-compile_variable-9.ensures c.if-is_whole.true in
-    let restat = c.in_ok-compile_variable-8.ensures rspfile.0 in
-    let pool = c.in_ok-compile_variable-7.ensures restat.0 in
-    let generator = c.in_ok-compile_variable-6.ensures pool.0 in
-    let dyndep = c.in_ok-compile_variable-5.ensures generator.0 in
-    let description = c.in_ok-compile_variable-4.ensures dyndep.0 in
-    let deps = c.in_ok-compile_variable-3.ensures description.0 in
-    let depfile = c.in_ok-compile_variable-2.ensures deps.0 in
-    let command = c.in_ok-compile_variable.ensures depfile.0 in
+    let rspfile = c.compile_variable-9.ensures c.if-is_whole.true in
+    let restat = c.compile_variable-8.ensures rspfile.0 in
+    let pool = c.compile_variable-7.ensures restat.0 in
+    let generator = c.compile_variable-6.ensures pool.0 in
+    let dyndep = c.compile_variable-5.ensures generator.0 in
+    let description = c.compile_variable-4.ensures dyndep.0 in
+    let deps = c.compile_variable-3.ensures description.0 in
+    let depfile = c.compile_variable-2.ensures deps.0 in
+    let command = c.compile_variable.ensures depfile.0 in
     record {
       command = command.1;
       depfile = depfile.1;

@@ -8,4 +8,4 @@ returns-clause-found c =
     (λ rules seen a.
     let bound = c.args.file.bound.now in
     c.replace_rule.ensures rules bound a
-    (compiled_from rules bound c.args.file.scopes.now c.args.build.now.rule c.rule.result.now c.args.rule.now c.in_ok-compiled.compiled c.rule.ensures seen c.in_ok-compiled.ensures))
+    (compiled_from rules bound c.args.file.scopes.now c.args.build.now.rule c.rule.result.now c.args.rule.now c.compile_rule-compiled.result c.rule.ensures seen c.compile_rule-compiled.ensures))
