@@ -14,7 +14,7 @@ use Rattle.plan_image.specs.declared.image.Slot.{Slot}
 use Rattle.plan_image.specs.declared.image.Edge.{Edge}
 use Rattle.plan_image.specs.declared.image.Parts.{Parts}
 use Rattle.plan_image.specs.Spelling.{counted, number, long_text, short_text, AreWords, IsText, IsFileName, AscendsFrom, PoolFits, SlotFits, kind_byte, pool, slot, edge, magic, spelling, bodies, BodiesFit, version_of, version_byte, HasSpelling, IsPrefixFree, IsNoSpelling}
-use Rattle.plan_image.specs.Reading.{◌>>=◌, Read, stop, number_up_to, bytes_at, table_at, ascending_at, byte_at, text_at, file_at, kind_at, slot_at, pool_at, version_by, versioned, bodies_at, edges_at, version_at, head_at, parts_at, tables_at, located, read_of}
+use Rattle.plan_image.specs.Reading.{◌>>=◌, Read, stop, number_up_to, bytes_at, table_at, ascending_at, byte_at, text_at, file_at, kind_at, slot_at, pool_at, version_by, versioned, bodies_at, edges_at, version_at, head_at, later_tables_at, parts_at, tables_at, located, read_of}
 use Rattle.plan_image.proofs.ItemLemmas.{IsBytes, Takes, Takes-then, bind_ok, ok_is}
 use Rattle.plan_image.proofs.FieldLemmas.{IsBytes-drop, IsReader, opens, passes, wide16, wide32, number_law, word_law, up_to_law, text_takes, bytes_again, text_law, file_law, table_law, ascending_law}
 use Rattle.plan_image.proofs.CodeLemmas.{byte_law, kind_law, beside_is, bodies_law}
@@ -146,16 +146,11 @@ joined bytes r1 r2 r3 r4 r5 r6 r7 r8 ts fs ps ss bs es ds v x th tt1 tf tp ts1 t
     subst (λ (p : Parts × List ℕ). Takes bytes (spelling p.0) p.1 × PartsFit p.0) (ok_is _ x e)
     (Takes8 bytes (head (version_of bs)) r1 (counted long_text ts) r2 (counted short_text fs) r3 (counted pool ps) r4 (counted slot ss) r5 (bodies bs) r6 (counted edge es) r7 (counted number ds) r8 h tt1 tf tp ts1 tb te td, fit)
 
--- the tables after the slots
-abbrev tail_at : List (List ℕ) → List (List ℕ) → List Pool → List Slot → Version → List ℕ → Read Parts
-tail_at ts fs ps ss v bytes =
-    bodies_at v bytes >>= λ bodies. edges_at bodies.0 bodies.1 >>= λ edges. ascending_at edges.1 >>= λ defaults. Ok (record { texts = ts; files = fs; pools = ps; slots = ss; bodies = bodies.0; edges = edges.0; defaults = defaults.0 }, defaults.1)
-
-tail_takes : (bytes r1 r2 r3 r4 r5 : List ℕ) (ts fs : List (List ℕ)) (ps : List Pool) (ss : List Slot) (v : Version) (x : Parts × List ℕ)
+later_tables_take : (bytes r1 r2 r3 r4 r5 : List ℕ) (ts fs : List (List ℕ)) (ps : List Pool) (ss : List Slot) (v : Version) (x : Parts × List ℕ)
     → Takes bytes (head v) r1 → Takes r1 (counted long_text ts) r2 → Takes r2 (counted short_text fs) r3 → Takes r3 (counted pool ps) r4 → Takes r4 (counted slot ss) r5
     → (length ts ≤ 2 ^ 22) × AllByRecursion IsText ts → (length fs ≤ 2 ^ 22) × AllByRecursion IsFileName fs → (length ps ≤ 4096) × AllByRecursion PoolFits ps → (length ss ≤ 2 ^ 24) × AllByRecursion SlotFits ss
-    → tail_at ts fs ps ss v r5 ≡ Ok x → Takes bytes (spelling x.0) x.1 × PartsFit x.0
-tail_takes bytes r1 r2 r3 r4 r5 ts fs ps ss v x th tt1 tf tp ts1 ft ff fp fs1 e =
+    → later_tables_at ts fs ps ss v r5 ≡ Ok x → Takes bytes (spelling x.0) x.1 × PartsFit x.0
+later_tables_take bytes r1 r2 r3 r4 r5 ts fs ps ss v x th tt1 tf tp ts1 ft ff fp fs1 e =
     let y = opens (bodies_law v) _ r5 x ts1.rest_fits e in
     let g = opens (edges_law y.0.0) _ y.0.1 x y.1.rest_fits y.3 in
     let k = opens ascending_law _ g.0.1 x g.1.rest_fits g.3 in
@@ -169,8 +164,8 @@ parts_takes bytes x fits e =
     let b = opens texts_law _ a.0.1 x a.1.rest_fits a.3 in
     let c = opens files_law _ b.0.1 x b.1.rest_fits b.3 in
     let d = opens pools_law _ c.0.1 x c.1.rest_fits c.3 in
-    let s = opens slots_law (λ slots. tail_at b.0.0 c.0.0 d.0.0 slots.0 a.0.0 slots.1) d.0.1 x d.1.rest_fits d.3 in
-    tail_takes bytes a.0.1 b.0.1 c.0.1 d.0.1 s.0.1 b.0.0 c.0.0 d.0.0 s.0.0 a.0.0 x a.1 b.1 c.1 d.1 s.1 b.2 c.2 d.2 s.2 s.3
+    let s = opens slots_law (λ slots. later_tables_at b.0.0 c.0.0 d.0.0 slots.0 a.0.0 slots.1) d.0.1 x d.1.rest_fits d.3 in
+    later_tables_take bytes a.0.1 b.0.1 c.0.1 d.0.1 s.0.1 b.0.0 c.0.0 d.0.0 s.0.0 a.0.0 x a.1 b.1 c.1 d.1 s.1 b.2 c.2 d.2 s.2 s.3
 
 parts_again : (p : Parts) (rest : List ℕ) → PartsFit p → parts_at (spelling p ++ rest) ≡ Ok (p, rest)
 unfolding parts_at spelling

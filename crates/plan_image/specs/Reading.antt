@@ -331,6 +331,14 @@ head_at bytes =
     else if starts_with nat_eq magic bytes then stop Truncated []
     else stop BadMagic bytes
 
+-- all tables, of which those up to the slots have been read, and the bytes after them
+abbrev pub later_tables_at : List (List ℕ) → List (List ℕ) → List Pool → List Slot → Version → List ℕ → Read Parts
+later_tables_at texts files pools slots version bytes = do
+  bodies ← bodies_at version bytes
+  edges ← edges_at bodies.0 bodies.1
+  defaults ← ascending_at edges.1
+  Ok (record { texts = texts; files = files; pools = pools; slots = slots; bodies = bodies.0; edges = edges.0; defaults = defaults.0 }, defaults.1)
+
 -- all tables, and the bytes after them
 unfoldable pub parts_at : List ℕ → Read Parts
 parts_at bytes = do
@@ -339,10 +347,7 @@ parts_at bytes = do
   files ← table_at file_at MAX_FILES texts.1
   pools ← table_at pool_at MAX_POOLS files.1
   slots ← table_at slot_at MAX_SLOTS pools.1
-  bodies ← bodies_at head.0 slots.1
-  edges ← edges_at bodies.0 bodies.1
-  defaults ← ascending_at edges.1
-  Ok (record { texts = texts.0; files = files.0; pools = pools.0; slots = slots.0; bodies = bodies.0; edges = edges.0; defaults = defaults.0 }, defaults.1)
+  later_tables_at texts.0 files.0 pools.0 slots.0 head.0 slots.1
 
 unfoldable pub tables_at : List ℕ → Result Parts Stop
 tables_at bytes = do

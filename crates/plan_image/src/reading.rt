@@ -6,7 +6,7 @@ mod fields;
 mod items;
 pub(crate) mod stop;
 
-ghost use Rattle.plan_image.specs.Reading.{read_of, Gives, pool_at, version_at, head_at, parts_at, tables_at};
+ghost use Rattle.plan_image.specs.Reading.{read_of, Gives, pool_at, version_at, head_at, later_tables_at, parts_at, tables_at};
 ghost use Rattle.plan_image.specs.Spelling.{spelling, IsNoSpelling};
 ghost use Rattle.plan_text.specs.Outcome.{Meets};
 ghost use Rattle.std.specs.Prelude.{◌≡◌, IfOk, IfErr, ◌≢◌};
@@ -22,7 +22,7 @@ use crate::reading::fields::{
 };
 use crate::reading::items::{Spelled, read_ascending, read_table};
 use crate::reading::stop::{ReadFault, stop_at};
-use plan_text::Items;
+use plan_text::{Items, RowList};
 use std::alloc::Global;
 
 #[tactic(auto, unfolding(crate::specs::Reading::read_of))]
@@ -130,16 +130,19 @@ pub(crate) fn read_version(bytes: &[u8]) -> Result<(Version, &[u8]), ReadFault>
     Ok((version, rest))
 }
 
-#[tactic(auto, unfolding(crate::specs::Reading::parts_at))]
-pub(crate) fn read_parts(alloc: Global, bytes: &[u8]) -> Result<(Parts, &[u8]), ReadFault>
-    ensures { Gives (λ x. (x.0, x.1.now)) result (parts_at bytes.now) }
+/// Reads the tables after the slots, and joins them with those that were read.
+fn read_later_tables(
+    alloc: Global,
+    texts: RowList<u8>,
+    files: RowList<u8>,
+    pools: Items<Pool>,
+    slots: Items<Slot>,
+    version: Version,
+    bytes: &[u8],
+) -> Result<(Parts, &[u8]), ReadFault>
+    ensures { Gives (λ x. (x.0, x.1.now)) result (later_tables_at texts files pools slots version bytes.now) }
 {
-    let (version, rest) = read_head(bytes)?;
-    let (texts, rest) = read_texts::<Text>(alloc, MAX_TEXTS as u32, rest)?;
-    let (files, rest) = read_texts::<FileName>(alloc, MAX_FILES as u32, rest)?;
-    let (pools, rest) = read_table(alloc, MAX_POOLS as u32, rest)?;
-    let (slots, rest) = read_table(alloc, MAX_SLOTS as u32, rest)?;
-    let (bodies, rest) = read_bodies(alloc, version, rest)?;
+    let (bodies, rest) = read_bodies(alloc, version, bytes)?;
     let (edges, rest) = read_edges(alloc, &bodies, rest)?;
     let (defaults, rest) = read_ascending(alloc, rest)?;
     Ok((
@@ -154,6 +157,18 @@ pub(crate) fn read_parts(alloc: Global, bytes: &[u8]) -> Result<(Parts, &[u8]), 
         },
         rest,
     ))
+}
+
+#[tactic(auto, unfolding(crate::specs::Reading::parts_at))]
+pub(crate) fn read_parts(alloc: Global, bytes: &[u8]) -> Result<(Parts, &[u8]), ReadFault>
+    ensures { Gives (λ x. (x.0, x.1.now)) result (parts_at bytes.now) }
+{
+    let (version, rest) = read_head(bytes)?;
+    let (texts, rest) = read_texts::<Text>(alloc, MAX_TEXTS as u32, rest)?;
+    let (files, rest) = read_texts::<FileName>(alloc, MAX_FILES as u32, rest)?;
+    let (pools, rest) = read_table(alloc, MAX_POOLS as u32, rest)?;
+    let (slots, rest) = read_table(alloc, MAX_SLOTS as u32, rest)?;
+    read_later_tables(alloc, texts, files, pools, slots, version, rest)
 }
 
 #[tactic(auto, unfolding(crate::specs::Reading::tables_at))]

@@ -6,6 +6,7 @@ use Rattle.plan_machine.specs.declared.event.Event.{Event}
 use Rattle.plan_machine.specs.declared.event.Mark.{Mark}
 use Rattle.plan_machine.specs.declared.run.refused.Refused.{Refused}
 use Rattle.plan_machine.specs.State.{State, has_ended}
+use Rattle.plan_machine.specs.Sameness.{same_ends}
 use Rattle.plan_machine.specs.Runs.{Reached}
 use Rattle.plan_machine.specs.Depfile.{depfile}
 use Rattle.plan_machine.specs.Agreement.{EndAlike, replies_to}
@@ -15,6 +16,12 @@ use Rattle.plan_machine.specs.Replaying.{IsReplayFault}
 pub record EndsIn (p : Parts) (limits : Limits) (events : List Event) (end : State) : Type 0 where
   pub marks : List Mark
   pub reached : Reached depfile p limits [] events marks end
+
+-- the events can be replayed, and the result compares the state that they lead to with this one
+pub record ComparesEnd (p : Parts) (limits : Limits) (end : State) (events : List Event) (same : Bool) : Type 0 where
+  pub other : State
+  pub ends : EndsIn p limits events other
+  pub is : same ≡ same_ends end other
 
 -- both lists can be replayed, and the result is true if and only if both have ended, with the same outcomes and
 -- the same slots

@@ -1,7 +1,7 @@
 //! Comparison of the ends of two runs.
 
 ghost use Rattle.std.specs.Prelude.{◌≡◌, ◌≤◌, [], IfErr, IfOk, length};
-ghost use Rattle.plan_machine.specs.Ends.{EndsIn, IsEndFault, NeverTellsApart, TellsEnds};
+ghost use Rattle.plan_machine.specs.Ends.{ComparesEnd, EndsIn, IsEndFault, NeverTellsApart, TellsEnds};
 ghost use Rattle.plan_machine.specs.Replaying.{IsReplayFault};
 
 use crate::event::Event;
@@ -26,6 +26,25 @@ fn end_of(
 {
     match replay(alloc, image, options, &[], events) {
         Ok((state, _marks)) => Ok(state),
+        Err(refused) => Err(refused),
+    }
+}
+
+/// Returns whether the state that the events reach and this one have both ended, with the same outcomes and the same
+/// slots.
+fn ends_like(
+    alloc: Global,
+    image: &Verified,
+    options: Options,
+    end: &State,
+    events: &[Event],
+) -> Result<bool, (usize, Refused)>
+    ensures compares { IfOk result (λ same. ComparesEnd image.now options end.now.run_state.now events.now same) }
+    ensures refused { IfErr result (λ e. IsReplayFault image.now options [] events.now e.0 e.1) }
+    ensures within { IfErr result (λ e. e.0 ≤ length events.now) }
+{
+    match end_of(alloc, image, options, events) {
+        Ok(other) => Ok(are_same_ends(end, &other)),
         Err(refused) => Err(refused),
     }
 }
@@ -56,8 +75,8 @@ pub fn same_end(
         Ok(state) => state,
         Err(refused) => return Err(refused),
     };
-    match end_of(alloc, image, options, second) {
-        Ok(other) => Ok(are_same_ends(&end, &other)),
+    match ends_like(alloc, image, options, &end, second) {
+        Ok(same) => Ok(same),
         Err((at, refused)) => Err((first.len() + at, refused)),
     }
 }
