@@ -14,7 +14,7 @@ use Rattle.plan_image.specs.declared.image.Slot.{Slot}
 use Rattle.plan_image.specs.declared.image.Edge.{Edge}
 use Rattle.plan_image.specs.declared.image.Parts.{Parts}
 use Rattle.plan_image.specs.Spelling.{counted, number, long_text, short_text, AreWords, IsText, IsFileName, AscendsFrom, PoolFits, SlotFits, kind_byte, pool, slot, edge, magic, spelling, bodies, BodiesFit, version_of, version_byte, HasSpelling, IsPrefixFree, IsNoSpelling}
-use Rattle.plan_image.specs.Reading.{◌>>=◌, Read, stop, number_up_to, bytes_at, table_at, ascending_at, byte_at, text_at, file_at, kind_at, slot_at, pool_at, version_by, versioned, bodies_at, edges_at, version_at, head_at, later_tables_at, parts_at, tables_at, located, read_of}
+use Rattle.plan_image.specs.Reading.{◌>>=◌, stop, number_up_to, bytes_at, table_at, byte_at, text_at, file_at, kind_at, slot_at, pool_at, version_by, versioned, version_at, head_at, later_tables_at, parts_at, tables_at, located, read_of}
 use Rattle.plan_image.proofs.ItemLemmas.{IsBytes, Takes, Takes-then, bind_ok, ok_is}
 use Rattle.plan_image.proofs.FieldLemmas.{IsBytes-drop, IsReader, opens, passes, wide16, wide32, number_law, word_law, up_to_law, text_takes, bytes_again, text_law, file_law, table_law, ascending_law}
 use Rattle.plan_image.proofs.CodeLemmas.{byte_law, kind_law, beside_is, bodies_law}
