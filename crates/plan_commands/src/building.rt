@@ -390,6 +390,58 @@ pub(crate) fn build_targets<
     }
 }
 
+/// Builds the targets of a manifest like `do_build`. What is kept for explanations serves all rounds.
+fn build_in_rounds<
+    S: Source,
+    W: World + Send + Sync,
+    F: Format + Send + Drop,
+    O: Sink + Send + Drop,
+    R: Threads + Wait + Sync,
+>(
+    rt: &R,
+    alloc: Global,
+    source: &mut S,
+    order: &Order<'_>,
+    world: &W,
+    kept: &mut Kept,
+    parker: &Parker,
+    printer: Printer<F, O>,
+) -> (Result<Done, PlanFault>, Printer<F, O>)
+    ensures done { let a = defined.asked order.now.manifest.now order.now.options (map (λ n. n.now) order.now.targets.now) in
+        IfOk result.0 (λ d. Builds (S.gives source.old) (by_format F.kept F.tells (F.kept printer.format)) W.allows a (O.failures printer.out, O.taken printer.out) (O.failures result.1.out, O.taken result.1.out) d) }
+    ensures read { OnOk result.0 (S.failures source.new ≡ S.failures source.old) }
+    ensures refused { let a = defined.asked order.now.manifest.now order.now.options (map (λ n. n.now) order.now.targets.now) in
+        let missing = IsMissing (S.gives source.old) (S.fails source.old) (S.failures source.old) (S.failures source.new) in
+        IfErr result.0 (λ fault. Stops (S.gives source.old) missing (by_format F.kept F.tells (F.kept printer.format)) W.allows a (O.failures printer.out, O.taken printer.out) (O.failures result.1.out, O.taken result.1.out) fault) }
+    ensures format { F.kept result.1.format ≡ F.kept printer.format }
+{
+    let mut printer = printer;
+    for _ in 0..MOST_ROUNDS {
+        let (round, left) = update_manifest(
+            rt, alloc, source, order, world, &mut *kept, parker, printer,
+        );
+        printer = left;
+        match round {
+            Ok(Round::Remade) => {}
+            Ok(Round::Failed) => return (Ok(Done::ManifestFails), printer),
+            Ok(Round::UpToDate(image)) => {
+                return build_targets(
+                    rt,
+                    alloc,
+                    image,
+                    order,
+                    world,
+                    kept.explainer(),
+                    parker,
+                    printer,
+                );
+            }
+            Err(fault) => return (Err(fault), printer),
+        }
+    }
+    (Ok(Done::NeverSettles), printer)
+}
+
 /// Builds the targets of a manifest, and prints the marks of its runs by a format while commands run. Returns how the
 /// build ended, and the printer. To print the marks that are ready, unpark `parker`.
 ///
@@ -428,30 +480,8 @@ pub fn do_build<
         IfErr result.0 (λ fault. Stops (S.gives source.old) missing (by_format F.kept F.tells (F.kept printer.format)) W.allows a (O.failures printer.out, O.taken printer.out) (O.failures result.1.out, O.taken result.1.out) fault) }
     ensures format { F.kept result.1.format ≡ F.kept printer.format }
 {
-    let mut printer = printer;
     let mut kept = Kept::new(false);
-    for _ in 0..MOST_ROUNDS {
-        let (round, left) = update_manifest(
-            rt, alloc, source, order, world, &mut kept, parker, printer,
-        );
-        printer = left;
-        match round {
-            Ok(Round::Remade) => {}
-            Ok(Round::Failed) => return (Ok(Done::ManifestFails), printer),
-            Ok(Round::UpToDate(image)) => {
-                return build_targets(
-                    rt,
-                    alloc,
-                    image,
-                    order,
-                    world,
-                    kept.explainer(),
-                    parker,
-                    printer,
-                );
-            }
-            Err(fault) => return (Err(fault), printer),
-        }
-    }
-    (Ok(Done::NeverSettles), printer)
+    build_in_rounds(
+        rt, alloc, source, order, world, &mut kept, parker, printer,
+    )
 }

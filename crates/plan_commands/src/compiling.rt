@@ -153,6 +153,12 @@ pub fn do_compile<S: Source, W: Sink>(
         IfErr result (λ fault. ((out.new ≡ out.old) × IsNotCompiled OutOfDateRule.Specified loads path.now fault)
         ⊎ FailsToCompile loads path.now output.now (W.failures out.old, W.taken out.old) (W.failures out.new, W.taken out.new) fault) }
 {
+    let Ok(failed) = write_fault(alloc, output) else {
+        return Err(no_memory(alloc));
+    };
+    let Ok(mut room) = Vec::with_capacity(alloc, ROOM) else {
+        return Err(printed_image_fault(alloc, ImageFault::Memory));
+    };
     let manifest = manifest_at(alloc, source, path)?;
     loaded_manifests_are_sound::<S>();
     let image = image_of(alloc, &manifest, OutOfDateRule::Specified);
@@ -161,12 +167,6 @@ pub fn do_compile<S: Source, W: Sink>(
     let image = match image {
         Ok(image) => image,
         Err(fault) => return Err(fault),
-    };
-    let Ok(failed) = write_fault(alloc, output) else {
-        return Err(no_memory(alloc));
-    };
-    let Ok(mut room) = Vec::with_capacity(alloc, ROOM) else {
-        return Err(printed_image_fault(alloc, ImageFault::Memory));
     };
     match print_image(&image, &mut room, out) {
         Ok(()) => Ok(0),

@@ -12,6 +12,7 @@ pub mod BodyKeys
 pub mod Names
 pub mod EdgeNumbers
 pub mod Collected
+pub mod NamedEdges
 pub mod Images
 pub mod Faithful
 pub mod OutputTable

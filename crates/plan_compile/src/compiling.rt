@@ -6,11 +6,10 @@ ghost use Rattle.plan_scope.specs.Sound.{IsSound};
 ghost use Rattle.plan_graph.specs.Files.{paths_in};
 ghost use Rattle.plan_graph.specs.Graph.{IsGraph, max_edges};
 ghost use Rattle.plan_compile.specs.Assembling.{codes_in, edges_in};
-ghost use Rattle.plan_compile.specs.Builds.{builds_from};
 ghost use Rattle.plan_compile.specs.Collected.{AreNames};
-ghost use Rattle.plan_compile.specs.EdgeNumbers.{numbers_in};
 ghost use Rattle.plan_compile.specs.Images.{compiled, used_bodies};
-ghost use Rattle.plan_compile.specs.Names.{all_texts, declared, used_pools};
+ghost use Rattle.plan_compile.specs.Names.{declared};
+ghost use Rattle.plan_compile.specs.NamedEdges.{AreNamed, HasFewFiles};
 ghost use Rattle.plan_compile.specs.OutputTable.{filled};
 ghost use Rattle.plan_compile.specs.Refusals.{IsRefused, RefusesEdges};
 ghost use Rattle.plan_compile.specs.Slots.{all_made, newest_from, slots_from};
@@ -74,10 +73,7 @@ pub(crate) fn name_all<'a, 'b>(
 ) -> Result<Named<'a>, AllocError>
     requires graph { IsGraph manifest.now graph.now }
     requires names { IfOk names (AreNames manifest.now.edges) }
-    ensures builds { IfOk result (λ n. n.builds.items ≡ builds_from rule graph.now 0 manifest.now.edges) }
-    ensures texts { IfOk result (λ n. n.names.texts ≡ all_texts n.builds.items) }
-    ensures pools { IfOk result (λ n. n.names.pools ≡ used_pools n.builds.items) }
-    ensures numbers { IfOk result (λ n. n.names.numbers.items ≡ map (numbers_in (all_texts n.builds.items) (used_pools n.builds.items)) n.builds.items) }
+    ensures { IfOk result (AreNamed rule manifest.now graph.now) }
 {
     let names = names?;
     let builds = builds(alloc, manifest, graph, rule)?;
@@ -178,6 +174,32 @@ fn assemble(tables: Tables, coded: Coded) -> Parts
     }
 }
 
+/// Returns the tables of the image, given the edges with their names. There may be too many pools.
+fn parts_of<'a, 'b, G: Generator>(
+    alloc: Global,
+    generator: &G,
+    manifest: &'a Manifest,
+    graph: &'a Graph<'b>,
+    named: &Named<'a>,
+    rule: OutOfDateRule,
+) -> Result<Parts, CompileFault>
+    requires ready { G.ready }
+    requires sound { IsSound manifest.now }
+    requires graph { IsGraph manifest.now graph.now }
+    requires few { HasFewFiles graph.now }
+    requires named { AreNamed rule manifest.now graph.now named.now }
+    ensures parts { IfOk result (λ parts. parts ≡ compiled rule manifest.now graph.now) }
+    ensures refused { IfErr result (λ fault. IsRefused rule manifest.now graph.now fault) }
+{
+    manifests_are_sound();
+    if named.names.pools.len() > MAX_POOLS {
+        return Err(CompileFault::Limit);
+    }
+    let coded = code_all(alloc, generator, graph.files.len(), named)?;
+    let tables = tables_of(alloc, manifest, graph, &named.names)?;
+    Ok(assemble(tables, coded))
+}
+
 /// Returns the tables of the image.
 fn parts<'a, 'b, G: Generator>(
     alloc: Global,
@@ -199,12 +221,7 @@ fn parts<'a, 'b, G: Generator>(
         return Err(CompileFault::Limit);
     }
     let named = name_all(alloc, manifest, graph, names, rule)?;
-    if named.names.pools.len() > MAX_POOLS {
-        return Err(CompileFault::Limit);
-    }
-    let coded = code_all(alloc, generator, graph.files.len(), &named)?;
-    let tables = tables_of(alloc, manifest, graph, &named.names)?;
-    Ok(assemble(tables, coded))
+    parts_of(alloc, generator, manifest, graph, &named, rule)
 }
 
 /// Compiles a manifest, given its names, with this generator of codes.

@@ -1,6 +1,6 @@
 //! The edges of an image, and the bodies that they share.
 
-ghost use Rattle.std.specs.Prelude.{◌≡◌, ◌≤◌, ◌<◌, ◌+◌, ◌++◌, ◌∷◌, [], length, map, OnOk, Some, slice_get};
+ghost use Rattle.std.specs.Prelude.{◌≡◌, ◌≤◌, ◌<◌, ◌+◌, ◌++◌, ◌∷◌, [], length, map, IfOk, OnOk, Some, slice_get};
 ghost use Rattle.plan_image.specs.Bodies.{body_of};
 ghost use Rattle.plan_image.specs.Columns.{lent};
 ghost use Rattle.plan_image.specs.declared.image.EdgeCode.TheVariants.{Shared};
@@ -85,6 +85,15 @@ fn slot_at(newest: &[u32], number: usize) -> u32
     newest[number]
 }
 
+/// Creates an empty list of edges with room for `count` edges.
+fn room_for(alloc: Global, count: usize) -> Result<Edges, AllocError>
+    ensures { IfOk result (λ edges. edges ≡ []) }
+{
+    let mut edges = Edges::new(alloc);
+    edges.reserve(count)?;
+    Ok(edges)
+}
+
 /// Generates the codes of these edges one after another. `newest` has the slot of each edge's newest input. Returns the
 /// edges and their bodies. Fails if a code has more places than a body may have.
 pub(crate) fn edges_of<'a>(
@@ -99,8 +108,7 @@ pub(crate) fn edges_of<'a>(
     requires few { length builds.now ≤ max_edges }
     ensures { AreCoded numbers.now (codes_in table.now numbers.now newest.now builds.now) builds.now result }
 {
-    let mut edges = Edges::new(alloc);
-    edges.reserve(builds.len())?;
+    let mut edges = room_for(alloc, builds.len())?;
     let mut bodies = Bodies::new(alloc);
     let mut code = Code::new(alloc);
     let mut lists = Lists::new(alloc);

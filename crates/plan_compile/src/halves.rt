@@ -1,6 +1,6 @@
 //! Codes that several threads generate.
 
-ghost use Rattle.std.specs.Prelude.{◌≡◌, ◌≤◌, ◌+◌, ◌++◌, IfErr, IfOk, length, map};
+ghost use Rattle.std.specs.Prelude.{◌≡◌, ◌≤◌, ◌+◌, ◌++◌, IfErr, IfOk, OnOk, length, map};
 ghost use Rattle.std.specs.Thread.{IsSync};
 ghost use Rattle.plan_graph.specs.Graph.{max_edges};
 ghost use Rattle.plan_compile.specs.declared.fault.CompileFault.TheVariants as CompileFault;
@@ -22,6 +22,25 @@ use std::thread::{Threads, join};
 /// The number of edges below which they aren't split, since starting a thread takes longer than it saves.
 const FEW: usize = 500;
 
+/// Appends the edges of a half to those before it. The bodies are numbered in the order of first use.
+fn append_half(
+    alloc: Global,
+    edges: &mut Edges,
+    bodies: &mut Bodies,
+    half: (Edges, Bodies),
+) -> Result<(), CompileFault>
+    requires { length bodies.old + length half.1 ≤ max_edges }
+    ensures bodies { OnOk result (bodies.new ≡ with_items same_body bodies.old half.1) }
+    ensures edges { OnOk result (edges.new ≡ edges.old ++ map (renumbered (map (λ b. number same_body b bodies.new) half.1)) half.0) }
+    ensures few { OnOk result (length bodies.new ≤ length bodies.old + length half.1) }
+    ensures memory { IfErr result (λ fault. fault ≡ CompileFault.Memory) }
+{
+    let (more, others) = half;
+    let numbers = bodies.put_all(alloc, others)?;
+    append_edges(edges, &more, &numbers)?;
+    Ok(())
+}
+
 /// Appends the edges of the second half to those of the first one. The bodies are numbered in the order of first use.
 fn join_halves(
     alloc: Global,
@@ -35,9 +54,7 @@ fn join_halves(
     ensures memory { IfErr result (λ fault. fault ≡ CompileFault.Memory) }
 {
     let (mut edges, mut bodies) = first;
-    let (more, others) = second;
-    let numbers = bodies.put_all(alloc, others)?;
-    append_edges(&mut edges, &more, &numbers)?;
+    append_half(alloc, &mut edges, &mut bodies, second)?;
     Ok((edges, bodies))
 }
 

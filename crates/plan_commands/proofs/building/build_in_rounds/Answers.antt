@@ -1,7 +1,7 @@
 use Rattle.std.proofs.Common.{◌≡◌, ◌+◌, ◌<◌, ◌∙◌, refl, suc, arith}
 use Rattle.plan_commands.specs.Showing.{by_format}
 use Rattle.plan_commands.proofs.BuildingLemmas.{no_rounds, round_so, err_so, on_ok, then_remade, then_fails, then_stops, all_built, all_stopped}
-use Rattle.plan_commands.proofs.building.do_build.Goals as goal
+use Rattle.plan_commands.proofs.building.build_in_rounds.Goals as goal
 
 pub loop-init : goal.loop-init
 loop-init g c = (refl, no_rounds (g.S.Source.gives c.args.source.now) (g.S.Source.fails c.args.source.now) (g.S.Source.failures c.args.source.now) (by_format g.F.Format.kept g.F.Format.tells (g.F.Format.kept c.args.printer.format)) g.W.World.allows _ _)

@@ -2,7 +2,7 @@ use Rattle.std.proofs.Common.{◌≡◌, map}
 use Rattle.plan_commands.specs.Building as defined
 use Rattle.plan_commands.specs.Showing.{by_format}
 use Rattle.plan_commands.proofs.BuildingLemmas.{AreRounds}
-use Rattle.plan_commands.proofs.building.do_build.Given as goal
+use Rattle.plan_commands.proofs.building.build_in_rounds.Given as goal
 
 abbrev pub invariant-loop : goal.invariant-loop
 invariant-loop g l =
