@@ -17,6 +17,7 @@ mod tool;
 mod watched_screen;
 mod words;
 
+use crate::ahead::RecordedWorld;
 use crate::building::Builder;
 use crate::held_outputs::HeldOutputs;
 use crate::refusal::{refuse, refuse_loading, refuse_record};
@@ -25,10 +26,12 @@ use crate::shells::{BuildShells, is_smart_terminal, shares_terminal, wants_escap
 use crate::stopping::{stop_at, warn};
 use crate::template::read_template;
 use crate::tool::{Tool, request_in, run_tool, tool_named, unknown_tool};
+use crate::watched_screen::WriteWatcher;
 use crate::words::{MANIFEST, RECORD, after_name, is_quiet, manifest_in, name_in, words_in};
 use plan_commands::{no_memory, open_streams};
 use plan_lanes::World;
 use plan_options::{CommandLine, Setting};
+use plan_progress::{Outputs, Stopwatch};
 use plan_stamps::StampCache;
 use plan_world::RealWorld;
 use std::alloc::{AllocError, Global};
@@ -36,6 +39,7 @@ use std::io::ErrorKind;
 use std::mem::forget;
 use std::process::ExitCode;
 use std::rt::{Env, Files};
+use std::sync::Wait;
 use std::thread::Threads;
 use std::{env, fs, str, thread};
 
@@ -305,6 +309,31 @@ fn order_in<E: Print>(rt: &HostRuntime, errors: &E, jobs: u8) -> Result<CommandL
     Ok(line)
 }
 
+/// Explains or builds what a command line asks for, and returns the exit status. If the build is likely to be long,
+/// threads ask for stamps ahead.
+fn build<
+    R: Threads + Wait + Sync + Files + Print + Eprint + AllocGlobal,
+    E: Print,
+    W: World + RecordedWorld + Send + Sync,
+    H: Outputs + Stopwatch + WriteWatcher + Sync,
+>(
+    builder: &Builder<'_, R, E, StampCache<'_, R, W>, H>,
+    line: &CommandLine,
+    jobs: u8,
+    is_long: bool,
+) -> u8 {
+    if asks_for_reasons(line) {
+        builder.explain(line, jobs)
+    } else if line.is_explained() {
+        builder.build_explained(line, jobs)
+    } else if is_long {
+        let threads = threads_ahead(builder.rt, line, line.jobs().unwrap_or(jobs));
+        builder.build_looking_ahead(line, jobs, threads)
+    } else {
+        builder.build_line(line, jobs)
+    }
+}
+
 fn main(rt: HostRuntime) -> ExitCode {
     let errors = rt.stderr();
     let Ok(_streams) = open_streams(&rt) else {
@@ -345,16 +374,7 @@ fn main(rt: HostRuntime) -> ExitCode {
         world.inner().screen(),
         world.inner().parker(),
     );
-    let status = if asks_for_reasons(&line) {
-        builder.explain(&line, jobs)
-    } else if line.is_explained() {
-        builder.build_explained(&line, jobs)
-    } else if is_long {
-        let threads = threads_ahead(&rt, &line, line.jobs().unwrap_or(jobs));
-        builder.build_looking_ahead(&line, jobs, threads)
-    } else {
-        builder.build_line(&line, jobs)
-    };
+    let status = build(&builder, &line, jobs, is_long);
     // The system frees its memory sooner than this program would.
     forget(world);
     ExitCode::from(status)

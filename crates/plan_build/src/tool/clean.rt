@@ -90,8 +90,8 @@ fn check_rules(alloc: Global, loaded: &Loaded, names: &[&[u8]]) -> Result<(), To
     Ok(())
 }
 
-/// Returns the files that a request asks to remove.
-fn batches(
+/// Returns the files in a graph that a request asks to remove.
+fn batches_in_graph(
     alloc: Global,
     loaded: &Loaded,
     graph: &Graph<'_>,
@@ -110,6 +110,58 @@ fn batches(
         batches.push(files_of_targets(alloc, loaded, graph, names)?)?;
     }
     Ok(batches)
+}
+
+/// Returns the files in the graph of a manifest that a request asks to remove.
+fn batches_in_manifest(
+    alloc: Global,
+    loaded: &Loaded,
+    request: &Request<'_>,
+) -> Result<Vec<Batch>, ToolFault> {
+    let graph = loaded.graph(alloc)?;
+    batches_in_graph(alloc, loaded, &graph, request)
+}
+
+/// Returns the files in the manifest at a path that a request asks to remove.
+fn batches_in<R: Files + Eprint + AllocGlobal>(
+    rt: &R,
+    manifest: &[u8],
+    request: &Request<'_>,
+) -> Result<Vec<Batch>, ToolFault> {
+    let loaded = load_manifest(rt, manifest)?;
+    batches_in_manifest(rt.alloc(), &loaded, request)
+}
+
+/// Returns those of these outputs that no build line in a graph names.
+fn dead_in_graph(
+    alloc: Global,
+    graph: &Graph<'_>,
+    outputs: &RowList<u8>,
+) -> Result<Batch, ToolFault> {
+    Ok(Batch {
+        heading: Vec::new(alloc),
+        files: dead_outputs(alloc, graph, outputs)?,
+    })
+}
+
+/// Returns those of these outputs that no build line in a manifest names.
+fn dead_in_manifest(
+    alloc: Global,
+    loaded: &Loaded,
+    outputs: &RowList<u8>,
+) -> Result<Batch, ToolFault> {
+    let graph = loaded.graph(alloc)?;
+    dead_in_graph(alloc, &graph, outputs)
+}
+
+/// Returns those of these outputs that no build line in the manifest at a path names.
+fn dead_in<R: Files + Eprint + AllocGlobal>(
+    rt: &R,
+    manifest: &[u8],
+    outputs: &RowList<u8>,
+) -> Result<Batch, ToolFault> {
+    let loaded = load_manifest(rt, manifest)?;
+    dead_in_manifest(rt.alloc(), &loaded, outputs)
 }
 
 /// The way in which files are removed.
@@ -156,6 +208,16 @@ struct Removal {
 }
 
 impl Removal {
+    /// Creates a removal that has removed nothing yet.
+    fn new(alloc: Global, manner: Manner) -> Removal {
+        Removal {
+            manner,
+            met: IndexMap::new(alloc),
+            count: 0,
+            has_failed: false,
+        }
+    }
+
     /// Removes a file, and returns whether it existed. A dry run only checks that. If the file can't be removed,
     /// reports the reason, but not for a path that isn't UTF-8.
     fn remove<R: Files + AllocGlobal, E: Print>(
@@ -231,35 +293,33 @@ impl Removal {
         }
         Ok(())
     }
-}
 
-/// Removes files, and writes their paths if the tool is verbose, and their number. Returns the exit status.
-fn remove_batches<R: Files + AllocGlobal, E: Print, W: Sink>(
-    rt: &R,
-    errors: &E,
-    manner: Manner,
-    batches: &[Batch],
-    out: &mut W,
-) -> Result<u8, ToolFault> {
-    let alloc = rt.alloc();
-    let mut removal = Removal {
-        manner,
-        met: IndexMap::new(alloc),
-        count: 0,
-        has_failed: false,
-    };
-    let end: &[u8] = if manner.is_verbose { b"\n" } else { b" " };
-    write_all(out, b"Cleaning...")?;
-    write_all(out, end)?;
-    for batch in batches {
-        removal.remove_batch(rt, errors, batch, out)?;
+    /// Removes the files of batches. Writes their paths if the tool is verbose, and their number.
+    fn remove_batches<R: Files + AllocGlobal, E: Print, W: Sink>(
+        &mut self,
+        rt: &R,
+        errors: &E,
+        batches: &[Batch],
+        out: &mut W,
+    ) -> Result<(), ToolFault> {
+        let end: &[u8] = if self.manner.is_verbose { b"\n" } else { b" " };
+        write_all(out, b"Cleaning...")?;
+        write_all(out, end)?;
+        for batch in batches {
+            self.remove_batch(rt, errors, batch, out)?;
+        }
+        write_all(out, self.count.to_string(rt.alloc())?.as_bytes())?;
+        write_all(out, b" files.\n")?;
+        Ok(())
     }
-    write_all(out, removal.count.to_string(alloc)?.as_bytes())?;
-    write_all(out, b" files.\n")?;
-    Ok(if removal.has_failed { REFUSED } else { 0 })
+
+    /// Returns the exit status of the tool.
+    fn status(&self) -> u8 {
+        if self.has_failed { REFUSED } else { 0 }
+    }
 }
 
-/// Removes files like `remove_batches`, and prints the lines to standard output. Returns the exit status.
+/// Removes the files of batches, and prints the lines on them to standard output. Returns the exit status.
 fn remove_printing<R: Files + Print + AllocGlobal, E: Print>(
     rt: &R,
     errors: &E,
@@ -268,10 +328,12 @@ fn remove_printing<R: Files + Print + AllocGlobal, E: Print>(
 ) -> Result<u8, ToolFault> {
     let room = Vec::with_capacity(rt.alloc(), OUTPUT_BUFFER)?;
     let mut out = Buffer::new(Standard::new(rt), room);
-    let status = remove_batches(rt, errors, manner, batches, &mut out);
+    let mut removal = Removal::new(rt.alloc(), manner);
+    let removed = removal.remove_batches(rt, errors, batches, &mut out);
     let (written, _out) = out.finish();
     written?;
-    status
+    removed?;
+    Ok(removal.status())
 }
 
 /// Removes files that commands made: all of them, those that targets need, or those of rules. Returns the exit status.
@@ -285,13 +347,10 @@ pub fn clean<R: Files + Print + Eprint + AllocGlobal, E: Print>(
     line: &CommandLine,
     request: &Request<'_>,
 ) -> Result<u8, ToolFault> {
-    let alloc = rt.alloc();
     if request.has(b'r') && request.names.is_empty() {
-        return Err(fault_of(alloc, &[b"expected a rule to clean"]));
+        return Err(fault_of(rt.alloc(), &[b"expected a rule to clean"]));
     }
-    let loaded = load_manifest(rt, manifest_in(line))?;
-    let graph = loaded.graph(alloc)?;
-    let batches = batches(alloc, &loaded, &graph, request)?;
+    let batches = batches_in(rt, manifest_in(line), request)?;
     remove_printing(rt, errors, manner_of(line), &batches)
 }
 
@@ -305,13 +364,6 @@ pub fn clean_dead<R: Files + Print + Eprint + AllocGlobal, E: Print>(
     line: &CommandLine,
     outputs: &RowList<u8>,
 ) -> Result<u8, ToolFault> {
-    let alloc = rt.alloc();
-    let loaded = load_manifest(rt, manifest_in(line))?;
-    let graph = loaded.graph(alloc)?;
-    let mut batches = Vec::new(alloc);
-    batches.push(Batch {
-        heading: Vec::new(alloc),
-        files: dead_outputs(alloc, &graph, outputs)?,
-    })?;
-    remove_printing(rt, errors, manner_of(line), &batches)
+    let batch = dead_in(rt, manifest_in(line), outputs)?;
+    remove_printing(rt, errors, manner_of(line), &[batch])
 }
