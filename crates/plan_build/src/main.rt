@@ -8,29 +8,28 @@ mod ending;
 mod held_outputs;
 mod pointing;
 mod refusal;
-mod said;
 mod sentences;
 mod shells;
 mod stopping;
 mod template;
-mod tool;
 mod watched_screen;
 mod words;
 
 use crate::ahead::RecordedWorld;
 use crate::building::Builder;
 use crate::held_outputs::HeldOutputs;
-use crate::refusal::{refuse, refuse_loading, refuse_record};
-use crate::said::{REFUSED, complain, complain_of, say};
+use crate::refusal::{refuse, refuse_loading, refuse_record, refuse_tool};
 use crate::shells::{BuildShells, is_smart_terminal, shares_terminal, wants_escapes};
 use crate::stopping::{stop_at, warn};
 use crate::template::read_template;
-use crate::tool::{Tool, request_in, run_tool, tool_named, unknown_tool};
 use crate::watched_screen::WriteWatcher;
-use crate::words::{MANIFEST, RECORD, after_name, is_quiet, manifest_in, name_in, words_in};
-use plan_commands::{no_memory, open_streams};
+use crate::words::{
+    MANIFEST, RECORD, after_name, is_quiet, manifest_in, manner_in, name_in, words_in,
+};
+use plan_build_tools::{BuildFiles, Request, Tool, request_in, run_tool, tool_named, unknown_tool};
 use plan_lanes::World;
 use plan_options::{CommandLine, Setting};
+use plan_printing::{REFUSED, complain, complain_of, no_memory, open_streams, reason_of, say};
 use plan_progress::{Outputs, Stopwatch};
 use plan_stamps::StampCache;
 use plan_world::RealWorld;
@@ -99,7 +98,7 @@ fn enter<R: Env + Print + Eprint + AllocGlobal, E: Print>(
     match env::set_current_dir(rt, str::from_utf8(folder).unwrap_or("")) {
         Ok(()) => Ok(()),
         Err(error) => {
-            let reason = said::reason_of(error.kind());
+            let reason = reason_of(error.kind());
             let before = b"ninja: fatal: chdir to '";
             complain_of(rt.alloc(), errors, before, folder, b"' - ", reason);
             Err(REFUSED)
@@ -211,6 +210,19 @@ fn check_no_targets<E: Print>(alloc: Global, errors: &E, targets: &[&[u8]]) -> R
     Ok(())
 }
 
+/// Runs the tool of a request, and returns the exit status. Reports why the tool is refused, if it is.
+fn answer<E: Print>(rt: &HostRuntime, errors: &E, line: &CommandLine, request: &Request<'_>) -> u8 {
+    let manifest = manifest_in(line);
+    let files = BuildFiles {
+        manifest,
+        record: RECORD,
+    };
+    match run_tool(rt, errors, files, manner_in(line), request) {
+        Ok(status) => status,
+        Err(fault) => refuse_tool(rt, errors, manifest, &fault),
+    }
+}
+
 /// Runs a tool in the folder that `-C` names.
 ///
 /// # Errors
@@ -231,7 +243,7 @@ fn use_tool<E: Print>(
     check_no_targets(alloc, errors, &targets)?;
     let request = request_in(rt, errors, tool, &words)?;
     enter(rt, errors, line)?;
-    Ok(run_tool(rt, line, &request))
+    Ok(answer(rt, errors, line, &request))
 }
 
 /// Checks whether a command line asks for the tool that says which commands would run, and why.

@@ -1,9 +1,9 @@
 //! Arguments that end the program before it does anything else.
 
-use crate::said::{REFUSED, complain, concatenate, digits_in, say, status_after};
 use plan_options::{
     Argument, CommandLine, Flag, Misuse, Setting, Stop, flags_named, long_name_in, name_of, stop_of,
 };
+use plan_printing::{REFUSED, complain, concatenate, digits_in, say, status_after};
 use plan_text::Memory;
 use std::alloc::{AllocError, Global};
 

@@ -1,15 +1,12 @@
 //! The tools that remove files.
 
-use crate::said::{REFUSED, complain_of, concatenate, reason_of};
-use crate::tool::fault::{ToolFault, fault_of};
-use crate::tool::loaded::{Loaded, load_manifest};
-use crate::tool::paths::paths_named;
-use crate::tool::words::Request;
-use crate::words::{is_verbose, manifest_in};
+use crate::fault::{ToolFault, fault_of};
+use crate::loaded::{Loaded, load_manifest};
+use crate::paths::paths_named;
+use crate::words::Request;
 use indexmap::IndexMap;
-use plan_commands::{Buffer, Standard};
 use plan_graph::Graph;
-use plan_options::CommandLine;
+use plan_printing::{Buffer, REFUSED, Standard, complain_of, concatenate, reason_of};
 use plan_text::{RowList, Sink, write_all};
 use plan_tools::{
     command_edges, dead_outputs, edges_of_paths, edges_of_rules, files_of_edges, needed_paths,
@@ -132,7 +129,7 @@ fn batches_in<R: Files + Eprint + AllocGlobal>(
     batches_in_manifest(rt.alloc(), &loaded, request)
 }
 
-/// Returns those of these outputs that no build line in a graph names.
+/// Returns the given outputs that no build line of a graph names.
 fn dead_in_graph(
     alloc: Global,
     graph: &Graph<'_>,
@@ -144,7 +141,7 @@ fn dead_in_graph(
     })
 }
 
-/// Returns those of these outputs that no build line in a manifest names.
+/// Returns the given outputs that no build line of a manifest names.
 fn dead_in_manifest(
     alloc: Global,
     loaded: &Loaded,
@@ -154,7 +151,7 @@ fn dead_in_manifest(
     dead_in_graph(alloc, &graph, outputs)
 }
 
-/// Returns those of these outputs that no build line in the manifest at a path names.
+/// Returns the given outputs that no build line of the manifest at a path names.
 fn dead_in<R: Files + Eprint + AllocGlobal>(
     rt: &R,
     manifest: &[u8],
@@ -166,20 +163,11 @@ fn dead_in<R: Files + Eprint + AllocGlobal>(
 
 /// The way in which files are removed.
 #[derive(Clone, Copy)]
-struct Manner {
+pub struct Manner {
     /// Whether files are only counted, not removed.
-    is_dry: bool,
+    pub is_dry: bool,
     /// Whether the path of each removed file is printed.
-    is_verbose: bool,
-}
-
-/// Returns the way in which a command line asks to remove files. A dry run is always verbose.
-fn manner_of(line: &CommandLine) -> Manner {
-    let is_dry = line.is_dry_run();
-    Manner {
-        is_dry,
-        is_verbose: is_dry || is_verbose(line),
-    }
+    pub is_verbose: bool,
 }
 
 /// Removes a file or an empty folder, and returns whether there was one.
@@ -344,14 +332,15 @@ fn remove_printing<R: Files + Print + AllocGlobal, E: Print>(
 pub fn clean<R: Files + Print + Eprint + AllocGlobal, E: Print>(
     rt: &R,
     errors: &E,
-    line: &CommandLine,
+    manifest: &[u8],
+    manner: Manner,
     request: &Request<'_>,
 ) -> Result<u8, ToolFault> {
     if request.has(b'r') && request.names.is_empty() {
         return Err(fault_of(rt.alloc(), &[b"expected a rule to clean"]));
     }
-    let batches = batches_in(rt, manifest_in(line), request)?;
-    remove_printing(rt, errors, manner_of(line), &batches)
+    let batches = batches_in(rt, manifest, request)?;
+    remove_printing(rt, errors, manner, &batches)
 }
 
 /// Removes each of these outputs that no build line names. Returns the exit status.
@@ -361,9 +350,10 @@ pub fn clean<R: Files + Print + Eprint + AllocGlobal, E: Print>(
 pub fn clean_dead<R: Files + Print + Eprint + AllocGlobal, E: Print>(
     rt: &R,
     errors: &E,
-    line: &CommandLine,
+    manifest: &[u8],
+    manner: Manner,
     outputs: &RowList<u8>,
 ) -> Result<u8, ToolFault> {
-    let batch = dead_in(rt, manifest_in(line), outputs)?;
-    remove_printing(rt, errors, manner_of(line), &[batch])
+    let batch = dead_in(rt, manifest, outputs)?;
+    remove_printing(rt, errors, manner, &[batch])
 }

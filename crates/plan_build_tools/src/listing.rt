@@ -1,13 +1,13 @@
 //! The tools that print parts of a manifest.
 
+use crate::fault::{ToolFault, fault_of};
+use crate::loaded::{Loaded, load_manifest};
+use crate::paths::{makers_of, paths_named};
 use crate::tool::Tool;
-use crate::tool::fault::{ToolFault, fault_of};
-use crate::tool::loaded::{Loaded, load_manifest};
-use crate::tool::paths::{makers_of, paths_named};
-use crate::tool::words::Request;
-use plan_commands::{Buffer, Standard};
+use crate::words::Request;
 use plan_graph::Graph;
 use plan_options::{Integer, integer_in};
+use plan_printing::{Buffer, Standard};
 use plan_text::Sink;
 use plan_tools::{
     build_order, chosen_edges, closest, default_paths, root_paths, write_all_targets,

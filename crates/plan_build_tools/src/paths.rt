@@ -1,7 +1,7 @@
 //! The paths that words name.
 
-use crate::tool::fault::{ToolFault, fault_of};
-use crate::tool::loaded::{Loaded, load_manifest};
+use crate::fault::{ToolFault, fault_of};
+use crate::loaded::{Loaded, load_manifest};
 use plan_graph::Graph;
 use plan_text::{RowList, TextFault, canonical};
 use plan_tools::closest_path;
