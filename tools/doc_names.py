@@ -43,15 +43,15 @@ FOREIGN: dict[str, set[str]] = {
 
 
 def printed_names() -> dict[int, str]:
-    """The names by which plan_commands prints numbers; any other number is want of memory."""
-    sources = "".join(path.read_text() for path in call_graph.source_files("plan_commands"))
+    """The names by which plan_printing prints numbers; any other number means that memory ran out."""
+    sources = "".join(path.read_text() for path in call_graph.source_files("plan_printing"))
     return {int(number): name for number, name in re.findall(r'\b(\d+) => "([A-Z]\w*)"', sources)}
 
 
 def answered_numbers() -> dict[int, str]:
-    """The variant that each number stands for in a function `number`, and the numbers of plan_commands itself."""
+    """The variant that each number stands for in a function `number`, and the numbers of faults of the commands."""
     numbers: dict[int, str] = {}
-    own = set(call_graph.source_files("plan_commands"))
+    own = {path for crate in ("plan_printing", "plan_commands") for path in call_graph.source_files(crate)}
     for path in call_graph.source_files():
         text = path.read_text()
         for body in re.findall(r"fn number\(.*?\n    }\n", text, flags=re.DOTALL):

@@ -6,7 +6,7 @@ use Rattle.plan_commands.specs.Building.{Asked, Builds, Stops}
 use Rattle.plan_commands.specs.Images.{SinkState}
 use Rattle.plan_commands.specs.Showing.{Shown}
 use Rattle.plan_commands.specs.declared.building.Done.{Done}
-use Rattle.plan_commands.specs.declared.fault.PlanFault.{PlanFault}
+use Rattle.plan_printing.specs.declared.fault.PlanFault.{PlanFault}
 use Rattle.plan_build.specs.Statuses.{Ended, HasUnknownTarget, any_contents, any_path}
 
 pub ended : (shown : Shown) (rule : Rule) (a : Asked) (old new : SinkState) (result : Result Done PlanFault)

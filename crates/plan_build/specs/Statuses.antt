@@ -18,7 +18,7 @@ use Rattle.plan_commands.specs.Showing.{Shown, by_format}
 use Rattle.plan_commands.specs.Building.{Asked, Builds, Stops, asked, exit_status}
 use Rattle.plan_commands.specs.Images.{SinkState}
 use Rattle.plan_commands.specs.declared.building.Done.{Done}
-use Rattle.plan_commands.specs.declared.fault.PlanFault.{PlanFault}
+use Rattle.plan_printing.specs.declared.fault.PlanFault.{PlanFault}
 
 -- `build.ninja`
 abbrev pub default_manifest : Text

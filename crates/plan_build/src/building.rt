@@ -9,17 +9,15 @@ ghost use Rattle.plan_build.specs.Statuses as statuses;
 ghost use Rattle.plan_build.specs.Statuses.{Ended, HasUnknownTarget, SaysBuilt, as_build, display_in};
 
 use crate::ending::{end_build, may_run_others, no_work, note_restat};
-use crate::refusal::{UNKNOWN_TARGET, refuse};
-use crate::tool::{Named, named_in, refuse_tool};
+use crate::refusal::{UNKNOWN_TARGET, refuse, refuse_tool};
 use crate::watched_screen::{WatchedScreen, WriteWatcher};
 use crate::words::{is_quiet, manifest_in, style_in};
-use plan_commands::{
-    Done, FileSource, Listed, MANIFEST_BYTES, Order, PlanFault, Printer, do_build, do_dry_build,
-    no_memory,
-};
+use plan_build_tools::{Named, named_in};
+use plan_commands::{Done, Listed, Order, Printer, do_build, do_dry_build};
 use plan_lanes::{Observing, World};
 use plan_machine::Options;
 use plan_options::CommandLine;
+use plan_printing::{FileSource, MANIFEST_BYTES, PlanFault, no_memory};
 use plan_progress::{BuildLines, Counts, Display, Outputs, Stopwatch};
 use std::rt::Files;
 use std::sync::{Mutex, Wait};

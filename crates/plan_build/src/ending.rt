@@ -3,8 +3,8 @@
 ghost use Rattle.std.specs.Prelude.{◌≡◌};
 ghost use Rattle.plan_commands.specs.Building.{exit_status};
 
-use crate::said::{complain, complain_of, digits_in, say, status_after};
 use plan_commands::{Done, Listed};
+use plan_printing::{complain, complain_of, digits_in, say, status_after};
 use plan_progress::Counts;
 use std::alloc::{AllocError, Global};
 

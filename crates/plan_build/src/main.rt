@@ -8,27 +8,29 @@ mod ending;
 mod held_outputs;
 mod pointing;
 mod refusal;
-mod said;
 mod sentences;
 mod shells;
 mod stopping;
 mod template;
-mod tool;
 mod watched_screen;
 mod words;
 
+use crate::ahead::RecordedWorld;
 use crate::building::Builder;
 use crate::held_outputs::HeldOutputs;
-use crate::refusal::{refuse, refuse_loading, refuse_record};
-use crate::said::{REFUSED, complain, complain_of, say};
+use crate::refusal::{refuse, refuse_loading, refuse_record, refuse_tool};
 use crate::shells::{BuildShells, is_smart_terminal, shares_terminal, wants_escapes};
 use crate::stopping::{stop_at, warn};
 use crate::template::read_template;
-use crate::tool::{Tool, request_in, run_tool, tool_named, unknown_tool};
-use crate::words::{MANIFEST, RECORD, after_name, is_quiet, manifest_in, name_in, words_in};
-use plan_commands::{no_memory, open_streams};
+use crate::watched_screen::WriteWatcher;
+use crate::words::{
+    MANIFEST, RECORD, after_name, is_quiet, manifest_in, manner_in, name_in, words_in,
+};
+use plan_build_tools::{BuildFiles, Request, Tool, request_in, run_tool, tool_named, unknown_tool};
 use plan_lanes::World;
 use plan_options::{CommandLine, Setting};
+use plan_printing::{REFUSED, complain, complain_of, no_memory, open_streams, reason_of, say};
+use plan_progress::{Outputs, Stopwatch};
 use plan_stamps::StampCache;
 use plan_world::RealWorld;
 use std::alloc::{AllocError, Global};
@@ -36,6 +38,7 @@ use std::io::ErrorKind;
 use std::mem::forget;
 use std::process::ExitCode;
 use std::rt::{Env, Files};
+use std::sync::Wait;
 use std::thread::Threads;
 use std::{env, fs, str, thread};
 
@@ -95,7 +98,7 @@ fn enter<R: Env + Print + Eprint + AllocGlobal, E: Print>(
     match env::set_current_dir(rt, str::from_utf8(folder).unwrap_or("")) {
         Ok(()) => Ok(()),
         Err(error) => {
-            let reason = said::reason_of(error.kind());
+            let reason = reason_of(error.kind());
             let before = b"ninja: fatal: chdir to '";
             complain_of(rt.alloc(), errors, before, folder, b"' - ", reason);
             Err(REFUSED)
@@ -207,6 +210,19 @@ fn check_no_targets<E: Print>(alloc: Global, errors: &E, targets: &[&[u8]]) -> R
     Ok(())
 }
 
+/// Runs the tool of a request, and returns the exit status. Reports why the tool is refused, if it is.
+fn answer<E: Print>(rt: &HostRuntime, errors: &E, line: &CommandLine, request: &Request<'_>) -> u8 {
+    let manifest = manifest_in(line);
+    let files = BuildFiles {
+        manifest,
+        record: RECORD,
+    };
+    match run_tool(rt, errors, files, manner_in(line), request) {
+        Ok(status) => status,
+        Err(fault) => refuse_tool(rt, errors, manifest, &fault),
+    }
+}
+
 /// Runs a tool in the folder that `-C` names.
 ///
 /// # Errors
@@ -227,7 +243,7 @@ fn use_tool<E: Print>(
     check_no_targets(alloc, errors, &targets)?;
     let request = request_in(rt, errors, tool, &words)?;
     enter(rt, errors, line)?;
-    Ok(run_tool(rt, line, &request))
+    Ok(answer(rt, errors, line, &request))
 }
 
 /// Checks whether a command line asks for the tool that says which commands would run, and why.
@@ -305,6 +321,31 @@ fn order_in<E: Print>(rt: &HostRuntime, errors: &E, jobs: u8) -> Result<CommandL
     Ok(line)
 }
 
+/// Explains or builds what a command line asks for, and returns the exit status. If the build is likely to be long,
+/// threads ask for stamps ahead.
+fn build<
+    R: Threads + Wait + Sync + Files + Print + Eprint + AllocGlobal,
+    E: Print,
+    W: World + RecordedWorld + Send + Sync,
+    H: Outputs + Stopwatch + WriteWatcher + Sync,
+>(
+    builder: &Builder<'_, R, E, StampCache<'_, R, W>, H>,
+    line: &CommandLine,
+    jobs: u8,
+    is_long: bool,
+) -> u8 {
+    if asks_for_reasons(line) {
+        builder.explain(line, jobs)
+    } else if line.is_explained() {
+        builder.build_explained(line, jobs)
+    } else if is_long {
+        let threads = threads_ahead(builder.rt, line, line.jobs().unwrap_or(jobs));
+        builder.build_looking_ahead(line, jobs, threads)
+    } else {
+        builder.build_line(line, jobs)
+    }
+}
+
 fn main(rt: HostRuntime) -> ExitCode {
     let errors = rt.stderr();
     let Ok(_streams) = open_streams(&rt) else {
@@ -345,16 +386,7 @@ fn main(rt: HostRuntime) -> ExitCode {
         world.inner().screen(),
         world.inner().parker(),
     );
-    let status = if asks_for_reasons(&line) {
-        builder.explain(&line, jobs)
-    } else if line.is_explained() {
-        builder.build_explained(&line, jobs)
-    } else if is_long {
-        let threads = threads_ahead(&rt, &line, line.jobs().unwrap_or(jobs));
-        builder.build_looking_ahead(&line, jobs, threads)
-    } else {
-        builder.build_line(&line, jobs)
-    };
+    let status = build(&builder, &line, jobs, is_long);
     // The system frees its memory sooner than this program would.
     forget(world);
     ExitCode::from(status)

@@ -1,6 +1,6 @@
 //! Error messages with a line of a file, as ninja shows them.
 
-use plan_commands::{FileSource, MANIFEST_BYTES};
+use plan_printing::{FileSource, MANIFEST_BYTES};
 use plan_scope::Source;
 use plan_text::number_in;
 use std::alloc::{AllocError, Global};

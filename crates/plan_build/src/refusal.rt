@@ -3,10 +3,13 @@
 ghost use Rattle.std.specs.Prelude.{◌≡◌};
 
 use crate::pointing::{Message, Place, error_text, place_in};
-use crate::said::{LOST_OUTPUT, NO_ROOM, REFUSED, complain, complain_of, concatenate, reason_of};
 use crate::sentences::{advice_for, sentence_of};
 use crate::words::RECORD;
-use plan_commands::{PlanFault, file_fault, no_memory};
+use plan_build_tools::ToolFault;
+use plan_printing::{
+    LOST_OUTPUT, NO_ROOM, PlanFault, REFUSED, complain, complain_of, concatenate, file_fault,
+    lost_output, no_memory, reason_of,
+};
 use plan_text::Items;
 use plan_world::OpenFault;
 use std::alloc::{AllocError, Global};
@@ -156,6 +159,25 @@ pub fn refuse<R: Files + Eprint + AllocGlobal, E: Print>(
         (number, None) => refuse_simply(alloc, errors, sentence_of(number), rest, number),
     }
     REFUSED
+}
+
+/// Reports why a tool is refused, and returns the exit status.
+pub fn refuse_tool<R: Files + Eprint + AllocGlobal, E: Print>(
+    rt: &R,
+    errors: &E,
+    manifest: &[u8],
+    fault: &ToolFault,
+) -> u8 {
+    let alloc = rt.alloc();
+    match fault {
+        ToolFault::Memory => refuse(rt, errors, manifest, &no_memory(alloc)),
+        ToolFault::LostOutput => refuse(rt, errors, manifest, &lost_output(alloc)),
+        ToolFault::Plan(fault) => refuse(rt, errors, manifest, fault),
+        ToolFault::Said(text) => {
+            complain(alloc, errors, &[b"ninja: error: ", text.as_slice(), b"\n"]);
+            REFUSED
+        }
+    }
 }
 
 /// Reports that the record can't be used, and returns the exit status.

@@ -1,8 +1,8 @@
 //! The shells of a build, and how the outputs of their commands are shown.
 
 use crate::held_outputs::HeldOutputs;
-use crate::said::concatenate;
 use plan_output::{shown_output, signal_line};
+use plan_printing::concatenate;
 use plan_world::{Printed, Shells, SystemShells};
 use std::alloc::{AllocError, Global};
 use std::io::{self, IsTerminal};

@@ -1,9 +1,9 @@
 //! Arguments that end the program before it does anything else.
 
-use crate::said::{REFUSED, complain, digits_in, say, status_after};
 use plan_options::{
-    Argument, CommandLine, Flag, Misuse, Setting, Stop, flags_named, name_of, stop_of,
+    Argument, CommandLine, Flag, Misuse, Setting, Stop, flags_named, long_name_in, name_of, stop_of,
 };
+use plan_printing::{REFUSED, complain, concatenate, digits_in, say, status_after};
 use plan_text::Memory;
 use std::alloc::{AllocError, Global};
 
@@ -76,42 +76,39 @@ fn append_possible(alloc: Global, text: &mut Vec<u8>, front: &[u8]) -> Result<()
     Ok(())
 }
 
+/// Returns the reason why a word that begins several long options is refused, with these options.
+fn ambiguous_text(alloc: Global, word: &[u8]) -> Result<Vec<u8>, Memory> {
+    let mut text = concatenate(
+        alloc,
+        &[b"option '", word, b"' is ambiguous; possibilities:"],
+    )?;
+    append_possible(alloc, &mut text, long_name_in(word))?;
+    Ok(text)
+}
+
 /// Returns the reason why a word is refused, in the words that C's getopt_long prints after the program's name.
 fn misuse_text(alloc: Global, misuse: &Misuse) -> Result<Vec<u8>, Memory> {
-    let mut text = Vec::new(alloc);
-    match misuse {
+    let text = match misuse {
+        Misuse::Ambiguous(word) => return ambiguous_text(alloc, word.as_slice()),
         Misuse::UnknownLetter(letter) => {
-            text.extend_from_slice(b"invalid option -- '")?;
-            text.push(*letter)?;
-            text.push(b'\'')?;
+            concatenate(alloc, &[b"invalid option -- '", &[*letter], b"'"])
         }
         Misuse::UnknownName(word) => {
-            text.extend_from_slice(b"unrecognized option '")?;
-            text.extend_from_slice(word.as_slice())?;
-            text.push(b'\'')?;
-        }
-        Misuse::Ambiguous(word) => {
-            text.extend_from_slice(b"option '")?;
-            text.extend_from_slice(word.as_slice())?;
-            text.extend_from_slice(b"' is ambiguous; possibilities:")?;
-            append_possible(
-                alloc,
-                &mut text,
-                plan_options::long_name_in(word.as_slice()),
-            )?;
+            concatenate(alloc, &[b"unrecognized option '", word.as_slice(), b"'"])
         }
         Misuse::TakesNoValue(flag) => {
-            text.extend_from_slice(b"option '--")?;
-            text.extend_from_slice(name_of(*flag))?;
-            text.extend_from_slice(b"' doesn't allow an argument")?;
+            let name = name_of(*flag);
+            concatenate(
+                alloc,
+                &[b"option '--", name, b"' doesn't allow an argument"],
+            )
         }
         Misuse::NeedsValue(setting) => {
-            text.extend_from_slice(b"option requires an argument -- '")?;
-            text.push(setting.letter())?;
-            text.push(b'\'')?;
+            let letter = [setting.letter()];
+            concatenate(alloc, &[b"option requires an argument -- '", &letter, b"'"])
         }
-    }
-    Ok(text)
+    };
+    Ok(text?)
 }
 
 /// Reports what is wrong with an argument, if anything is, and prints the options.

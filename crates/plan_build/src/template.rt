@@ -1,6 +1,6 @@
 //! The template of the text before a label.
 
-use crate::said::{REFUSED, complain};
+use plan_printing::{REFUSED, complain};
 use plan_progress::unknown_placeholder;
 use std::env;
 use std::env::VarError;

@@ -4,6 +4,7 @@ ghost use Rattle.std.specs.Prelude.{◌≡◌};
 ghost use Rattle.plan_build.specs.Statuses as statuses;
 ghost use Rattle.plan_build.specs.Statuses.{manifest_in};
 
+use plan_build_tools::Manner;
 use plan_options::{CommandLine, Flag, Setting};
 use plan_progress::Style;
 use plan_text::Memory;
@@ -24,9 +25,13 @@ pub fn manifest_in(line: &CommandLine) -> &[u8]
     line.value(Setting::Manifest).unwrap_or(MANIFEST)
 }
 
-/// Checks whether the last option for verbosity is `-v`.
-pub fn is_verbose(line: &CommandLine) -> bool {
-    line.verbosity() == Some(Flag::Verbose)
+/// Returns the way in which a command line asks a tool to remove files. A dry run is always verbose.
+pub fn manner_in(line: &CommandLine) -> Manner {
+    let is_dry = line.is_dry_run();
+    Manner {
+        is_dry,
+        is_verbose: is_dry || line.verbosity() == Some(Flag::Verbose),
+    }
 }
 
 /// Checks whether the last option for verbosity is `--quiet`.

@@ -23,7 +23,7 @@ use Rattle.plan_lanes.specs.declared.fault.LaneFault.{LaneFault}
 use Rattle.plan_lanes.specs.declared.fault.LaneFault.TheVariants as lanes
 use Rattle.plan_status.specs.Printing.{Prints}
 use Rattle.plan_status.specs.declared.fault.PrintFault.{PrintFault}
-use Rattle.plan_commands.specs.declared.fault.PlanFault.{PlanFault}
+use Rattle.plan_printing.specs.declared.fault.PlanFault.{PlanFault}
 use Rattle.plan_commands.specs.declared.building.Round.{Round}
 use Rattle.plan_commands.specs.declared.building.Round.TheVariants as round
 use Rattle.plan_commands.specs.declared.building.Done.{Done}

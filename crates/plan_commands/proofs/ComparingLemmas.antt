@@ -8,9 +8,10 @@ use Rattle.plan_machine.specs.declared.event.Event.{Event}
 use Rattle.plan_machine.specs.declared.run.refused.Refused.{Refused}
 use Rattle.plan_machine.specs.Ends.{IsEndFault, NeverTellsApart, TellsEnds}
 use Rattle.plan_trace.specs.declared.trace.Trace.{Trace}
-use Rattle.plan_commands.specs.declared.fault.PlanFault.{PlanFault}
+use Rattle.plan_printing.specs.declared.fault.PlanFault.{PlanFault}
 use Rattle.plan_commands.specs.Comparing.{AreCompared, AreNotCompared, LacksAnswer, are_comparable}
-use Rattle.plan_commands.specs.Faults.{no_memory, printed_refusal}
+use Rattle.plan_printing.specs.Faults.{no_memory}
+use Rattle.plan_commands.specs.Faults.{printed_refusal}
 use Rattle.plan_commands.specs.Replaying.{IsTraceAt}
 
 pub compared : (p : Parts) (first second : Trace) (events others : List Event) (same : Bool) → are_comparable first second ≡ true → events ≡ first.events → others ≡ second.events

@@ -3,7 +3,7 @@ use Rattle.std.proofs.Common.{◌⊎◌, Result, Ok, Err, IfErr, inl, inr}
 use Rattle.plan_scope.specs.Scopes.{Text}
 use Rattle.plan_scope.specs.declared.manifest.Manifest.{Manifest}
 use Rattle.plan_compile.specs.declared.baseline.OutOfDateRule.{OutOfDateRule}
-use Rattle.plan_commands.specs.declared.fault.PlanFault.{PlanFault}
+use Rattle.plan_printing.specs.declared.fault.PlanFault.{PlanFault}
 use Rattle.plan_commands.specs.Commands.{IsMeant, LacksGraph, MayLoad}
 use Rattle.plan_commands.specs.Compiling.{IsNotCompiled, LacksImageOf}
 

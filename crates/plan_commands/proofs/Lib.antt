@@ -4,7 +4,6 @@ mod MakerLemmas
 mod TargetLemmas
 mod ShowingLemmas
 mod RunningLemmas
-mod BufferLemmas
 mod BuildingLemmas
 mod BuildRightLemmas
 mod ComparingLemmas

@@ -16,8 +16,8 @@ use Rattle.plan_lanes.specs.declared.fault.LaneFault.{LaneFault}
 use Rattle.plan_lanes.specs.declared.fault.LaneFault.TheVariants as lanes
 use Rattle.plan_status.specs.Printing.{Prints}
 use Rattle.plan_status.specs.declared.fault.PrintFault.{PrintFault}
-use Rattle.plan_commands.specs.declared.fault.PlanFault.{PlanFault}
-use Rattle.plan_commands.specs.Faults.{no_memory}
+use Rattle.plan_printing.specs.declared.fault.PlanFault.{PlanFault}
+use Rattle.plan_printing.specs.Faults.{no_memory}
 use Rattle.plan_commands.specs.Images.{IsImageAt, SinkState}
 use Rattle.plan_commands.specs.Targets.{targets}
 use Rattle.plan_commands.specs.Running.{FailsToRun, IsKeptFor, IsNotBegun, IsOpened, IsUnknown, Runs, Tells, TellsAll, TellsSome, Traces, Wanted, WritesTrace, Written, both, lines_in, opening_memory, printed_lane_fault, report_in}

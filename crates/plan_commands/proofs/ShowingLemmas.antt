@@ -16,7 +16,7 @@ use Rattle.plan_lanes.specs.Reports.{IsRunOf, IsTotalOf}
 use Rattle.plan_lanes.specs.declared.board.Report.{Report}
 use Rattle.plan_lanes.specs.declared.fault.LaneFault.{LaneFault}
 use Rattle.plan_lanes.specs.declared.fault.LaneFault.TheVariants as lanes
-use Rattle.plan_commands.specs.declared.fault.PlanFault.{PlanFault}
+use Rattle.plan_printing.specs.declared.fault.PlanFault.{PlanFault}
 use Rattle.plan_commands.specs.Images.{SinkState}
 use Rattle.plan_commands.specs.Running.{EndsPrinted, lines_in, report_in}
 use Rattle.plan_commands.specs.Showing.{IsShown, Shown, by_format}

@@ -11,7 +11,7 @@ use Rattle.plan_image.specs.declared.image.Edge.{Edge}
 use Rattle.plan_image.specs.declared.image.Parts.{Parts}
 use Rattle.plan_image.specs.Makers.{first_maker, makes}
 use Rattle.plan_machine.specs.Wanted.{any_outside}
-use Rattle.plan_commands.specs.declared.fault.PlanFault.{PlanFault}
+use Rattle.plan_printing.specs.declared.fault.PlanFault.{PlanFault}
 use Rattle.plan_commands.specs.Targets.{maker, or_unknown, target, targets}
 
 abbrev pub in_front : {B : Type 0} → List B → Result (List B) PlanFault → Result (List B) PlanFault

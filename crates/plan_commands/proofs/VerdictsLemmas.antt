@@ -6,8 +6,9 @@ use Rattle.plan_image.specs.declared.image.Parts.{Parts}
 use Rattle.plan_verify.specs.declared.fault.VerifyFault.{VerifyFault}
 use Rattle.plan_verify.specs.declared.fault.VerifyFault.TheVariants.{Refused, Memory}
 use Rattle.plan_verify.specs.Verdict.{IsVerifyFault}
-use Rattle.plan_commands.specs.declared.fault.PlanFault.{PlanFault}
-use Rattle.plan_commands.specs.Faults.{printed_verify_fault, no_memory}
+use Rattle.plan_printing.specs.declared.fault.PlanFault.{PlanFault}
+use Rattle.plan_printing.specs.Faults.{no_memory}
+use Rattle.plan_commands.specs.Faults.{printed_verify_fault}
 use Rattle.plan_commands.specs.Images.{IsImageAt}
 use Rattle.plan_commands.specs.Verdicts.{IsRejected}
 

@@ -18,12 +18,12 @@ use Rattle.plan_lanes.specs.Journals.{Rule}
 use Rattle.plan_lanes.specs.Progress.{Opened}
 use Rattle.plan_lanes.specs.declared.board.Report.{Report}
 use Rattle.plan_lanes.specs.declared.fault.LaneFault.{LaneFault}
-use Rattle.plan_commands.specs.declared.fault.PlanFault.{PlanFault}
+use Rattle.plan_printing.specs.declared.fault.PlanFault.{PlanFault}
 use Rattle.plan_commands.specs.declared.building.Done.{Done}
 use Rattle.plan_commands.specs.declared.building.Done.TheVariants as done
 use Rattle.plan_commands.specs.declared.building.Round.{Round}
 use Rattle.plan_commands.specs.declared.building.Round.TheVariants as round
-use Rattle.plan_commands.specs.Faults.{no_memory}
+use Rattle.plan_printing.specs.Faults.{no_memory}
 use Rattle.plan_commands.specs.Compiling.{IsImageOf, IsNotCompiled}
 use Rattle.plan_commands.specs.Images.{SinkState}
 use Rattle.plan_commands.specs.Showing.{Shown}

@@ -11,8 +11,8 @@ use Rattle.plan_scope.specs.declared.fault.ScopeFault.TheVariants.{LoadMemory, M
 use Rattle.plan_graph.specs.Cycles.{AreRanks}
 use Rattle.plan_graph.specs.Graph.{Refuses, all_waits, first_fault}
 use Rattle.plan_graph.specs.declared.fault.GraphFault.{GraphFault}
-use Rattle.plan_commands.specs.declared.fault.PlanFault.{PlanFault}
-use Rattle.plan_commands.specs.Faults.{printed_fault, printed_graph_fault, graph_memory, no_memory, output_fault}
+use Rattle.plan_printing.specs.declared.fault.PlanFault.{PlanFault}
+use Rattle.plan_printing.specs.Faults.{printed_fault, printed_graph_fault, graph_memory, no_memory, output_fault}
 
 -- The manifest has a graph: it has no fault, and no edge waits for itself, directly or through other edges.
 abbrev pub HasGraph : Manifest → Type 0

@@ -10,8 +10,9 @@ use Rattle.plan_machine.specs.Limits.{Limits}
 use Rattle.plan_machine.specs.declared.run.refused.Refused.{Refused}
 use Rattle.plan_machine.specs.Ends.{IsEndFault, NeverTellsApart, TellsEnds}
 use Rattle.plan_trace.specs.declared.trace.Trace.{Trace}
-use Rattle.plan_commands.specs.declared.fault.PlanFault.{PlanFault}
-use Rattle.plan_commands.specs.Faults.{no_memory, output_fault, printed_refusal, traces_differ}
+use Rattle.plan_printing.specs.declared.fault.PlanFault.{PlanFault}
+use Rattle.plan_printing.specs.Faults.{no_memory, output_fault}
+use Rattle.plan_commands.specs.Faults.{printed_refusal, traces_differ}
 use Rattle.plan_commands.specs.Images.{IsImageAt, SinkState}
 use Rattle.plan_commands.specs.Replaying.{IsTraceAt, LacksTrace}
 use Rattle.plan_commands.specs.Verdicts.{IsRejected}

@@ -17,8 +17,9 @@ use Rattle.plan_compile.specs.declared.baseline.OutOfDateRule.TheVariants.{Speci
 use Rattle.plan_compile.specs.Images.{compiled}
 use Rattle.plan_compile.specs.Refusals as compiles
 use Rattle.plan_compile.specs.declared.fault.CompileFault.{CompileFault}
-use Rattle.plan_commands.specs.declared.fault.PlanFault.{PlanFault}
-use Rattle.plan_commands.specs.Faults.{printed_compile_fault, printed_image_fault, file_fault}
+use Rattle.plan_printing.specs.declared.fault.PlanFault.{PlanFault}
+use Rattle.plan_printing.specs.Faults.{file_fault}
+use Rattle.plan_commands.specs.Faults.{printed_compile_fault, printed_image_fault}
 use Rattle.plan_commands.specs.Commands.{MayLoad, IsRefused}
 use Rattle.plan_commands.specs.Images.{SinkState}
 

@@ -8,8 +8,9 @@ use Rattle.plan_image.specs.declared.fault.ImageFault.{ImageFault}
 use Rattle.plan_image.specs.declared.fault.ImageFault.TheVariants as image
 use Rattle.plan_image.specs.Reading.{read_of}
 use Rattle.plan_image.specs.Listing.{listing_of}
-use Rattle.plan_commands.specs.declared.fault.PlanFault.{PlanFault}
-use Rattle.plan_commands.specs.Faults.{printed_image_fault, file_fault, no_memory, output_fault}
+use Rattle.plan_printing.specs.declared.fault.PlanFault.{PlanFault}
+use Rattle.plan_printing.specs.Faults.{file_fault, no_memory, output_fault}
+use Rattle.plan_commands.specs.Faults.{printed_image_fault}
 
 -- The state of a sink: the number of its failed writes, and the bytes that it took, if they are known.
 abbrev pub SinkState : Type 0

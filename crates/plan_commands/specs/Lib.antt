@@ -1,5 +1,4 @@
 pub mod BuildIsRight
-pub mod Buffers
 pub mod Building
 pub mod Commands
 pub mod Comparing

@@ -26,8 +26,9 @@ use Rattle.plan_status.specs.Printing.{Prints}
 use Rattle.plan_trace.specs.declared.trace.Trace.{Trace}
 use Rattle.plan_trace.specs.declared.fault.TraceFault.TheVariants.{BadTrace}
 use Rattle.plan_trace.specs.Reading.{read_of}
-use Rattle.plan_commands.specs.declared.fault.PlanFault.{PlanFault}
-use Rattle.plan_commands.specs.Faults.{no_memory, output_fault, printed_refusal, trace_fault}
+use Rattle.plan_printing.specs.declared.fault.PlanFault.{PlanFault}
+use Rattle.plan_printing.specs.Faults.{no_memory, output_fault}
+use Rattle.plan_commands.specs.Faults.{printed_refusal, trace_fault}
 use Rattle.plan_commands.specs.Images.{HasNoFile, IsImageAt, SinkState}
 use Rattle.plan_commands.specs.Verdicts.{IsRejected}
 

@@ -20,8 +20,8 @@ use Rattle.plan_lanes.specs.Reports.{IsRunOf}
 use Rattle.plan_lanes.specs.Faults.{number_of, report_of}
 use Rattle.plan_lanes.specs.declared.board.Report.{Report}
 use Rattle.plan_lanes.specs.declared.fault.LaneFault.{LaneFault}
-use Rattle.plan_commands.specs.declared.fault.PlanFault.{PlanFault}
-use Rattle.plan_commands.specs.Faults.{file_fault, no_memory, output_fault}
+use Rattle.plan_printing.specs.declared.fault.PlanFault.{PlanFault}
+use Rattle.plan_printing.specs.Faults.{file_fault, no_memory, output_fault}
 use Rattle.plan_commands.specs.Images.{SinkState, IsImageAt}
 use Rattle.plan_commands.specs.Showing.{IsShown, Shown, as_lines}
 use Rattle.plan_commands.specs.Targets.{targets}

@@ -6,8 +6,8 @@ use Rattle.plan_text.specs.Path.{canonical_of}
 use Rattle.plan_scope.specs.Scopes.{Text}
 use Rattle.plan_image.specs.declared.image.Parts.{Parts}
 use Rattle.plan_image.specs.Makers.{first_maker}
-use Rattle.plan_commands.specs.declared.fault.PlanFault.{PlanFault}
-use Rattle.plan_commands.specs.Faults.{unknown_target}
+use Rattle.plan_printing.specs.declared.fault.PlanFault.{PlanFault}
+use Rattle.plan_printing.specs.Faults.{unknown_target}
 
 abbrev pub or_unknown : Text → Option ℕ → Result ℕ PlanFault
 or_unknown name (Some edge) = Ok edge

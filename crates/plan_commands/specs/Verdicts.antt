@@ -10,8 +10,9 @@ use Rattle.plan_verify.specs.declared.fault.Refusal.{Refusal}
 use Rattle.plan_verify.specs.declared.fault.VerifyFault.TheVariants as verdict
 use Rattle.plan_verify.specs.WellShaped.{IsWellShaped, IsRefused}
 use Rattle.plan_verify.specs.Budget.{image_budget}
-use Rattle.plan_commands.specs.declared.fault.PlanFault.{PlanFault}
-use Rattle.plan_commands.specs.Faults.{printed_verify_fault, no_memory, output_fault}
+use Rattle.plan_printing.specs.declared.fault.PlanFault.{PlanFault}
+use Rattle.plan_printing.specs.Faults.{no_memory, output_fault}
+use Rattle.plan_commands.specs.Faults.{printed_verify_fault}
 use Rattle.plan_commands.specs.Images.{SinkState, IsImageAt, LacksImage}
 
 -- The line `ok EDGES BUDGET`, with the number of edges and the budget.

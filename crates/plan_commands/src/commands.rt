@@ -4,9 +4,8 @@ ghost use Rattle.std.specs.Prelude.{◌≡◌, ◌⊎◌, IfOk, IfErr, OnOk};
 ghost use Rattle.plan_scope.specs.Sources.{SameFiles};
 ghost use Rattle.plan_commands.specs.Commands.{WritesAll, HasGraph, IsRefused, IsMeant, LacksGraph, FailsToWrite, loading_by};
 
-use crate::fault::{PlanFault, no_memory, output_fault, printed_fault};
-use crate::graph_fault::printed_graph_fault;
 use plan_graph::graph;
+use plan_printing::{PlanFault, no_memory, output_fault, printed_fault, printed_graph_fault};
 use plan_scope::{Manifest, Source, evaluate, load, write_commands};
 use plan_text::Sink;
 use std::alloc::Global;

@@ -4,14 +4,15 @@ ghost use Rattle.std.specs.Prelude.{◌≡◌, ◌⊎◌, IfOk, IfErr, OnOk, fal
 ghost use Rattle.plan_scope.specs.Loading.{IsMissing};
 ghost use Rattle.plan_commands.specs.Comparing as defined;
 ghost use Rattle.plan_commands.specs.Comparing.{AreCompared, AreNotCompared, Compares, FailsToAnswer, IsAnswer, IsNotAnswered, LacksAnswer};
-ghost use Rattle.plan_commands.specs.Faults.{no_memory, output_fault, traces_differ};
+ghost use Rattle.plan_printing.specs.Faults.{no_memory, output_fault};
+ghost use Rattle.plan_commands.specs.Faults.{traces_differ};
 ghost use Rattle.plan_text.specs.Sinks.{Writes};
 
-use crate::fault::{PlanFault, no_memory, output_fault};
 use crate::images::verified_at;
 use crate::replay_fault::printed_refusal;
 use crate::replaying::trace_at;
 use plan_machine::same_end;
+use plan_printing::{PlanFault, no_memory, output_fault};
 use plan_scope::Source;
 use plan_text::{Items, Sink, write_all};
 use plan_trace::Trace;

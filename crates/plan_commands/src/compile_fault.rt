@@ -3,8 +3,8 @@
 ghost use Rattle.std.specs.Prelude.{◌≡◌};
 ghost use Rattle.plan_commands.specs.Faults as defined;
 
-use crate::fault::PlanFault;
 use plan_compile::CompileFault;
+use plan_printing::PlanFault;
 use plan_text::Items;
 use std::alloc::Global;
 

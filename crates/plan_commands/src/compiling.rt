@@ -11,8 +11,6 @@ ghost use Rattle.plan_commands.specs.Compiling.{IsImageOf, SpellsImage, LacksIma
 
 use crate::commands::manifest_at;
 use crate::compile_fault::printed_compile_fault;
-use crate::fault::{PlanFault, no_memory, write_fault};
-use crate::graph_fault::printed_graph_fault;
 use crate::image_fault::printed_image_fault;
 use plan_compile::{
     EdgeNames, OutOfDateRule, collect_names, compile, compile_with, image_is_shaped,
@@ -20,6 +18,7 @@ use plan_compile::{
 };
 use plan_graph::{Graph, MAX_EDGES, graph};
 use plan_image::{Image, ImageFault, print_image};
+use plan_printing::{PlanFault, no_memory, printed_graph_fault, write_fault};
 use plan_scope::{Manifest, Source, loaded_manifests_are_sound};
 use plan_text::Sink;
 use std::alloc::{AllocError, Global};

@@ -7,11 +7,11 @@ ghost use Rattle.plan_commands.specs.Dry.{DryStops, Previews, dry_rule};
 ghost use Rattle.plan_commands.specs.Showing.{by_format};
 
 use crate::building::{Done, Order, Round, build_targets, update_manifest};
-use crate::fault::PlanFault;
 use crate::kept::Kept;
 use crate::printed_runs::Printer;
 use plan_lanes::{Permit, World};
 use plan_machine::Reply;
+use plan_printing::PlanFault;
 use plan_scope::Source;
 use plan_status::Format;
 use plan_text::{RowList, Sink};

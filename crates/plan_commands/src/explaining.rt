@@ -17,10 +17,10 @@ ghost use Rattle.plan_commands.specs.Explaining.{Explains, Says, SaysReason, new
 
 use crate::compile_fault::printed_compile_fault;
 use crate::compiling::graph_of;
-use crate::fault::PlanFault;
 use plan_compile::{CommandLayout, EdgeLayout, OutOfDateRule, layouts};
 use plan_lanes::{Observed, Permit, World};
 use plan_machine::{LoadedSlot, Recorded, Reply};
+use plan_printing::PlanFault;
 use plan_reasons::{Finding, LentSlots, Names, Observed as Seen, Reason, reason_for, sentence};
 use plan_scope::{EdgeRef, Manifest, PathRange};
 use plan_text::RowList;

@@ -1,10 +1,11 @@
 //! Faults of reading and verifying images, as they are printed.
 
 ghost use Rattle.std.specs.Prelude.{◌≡◌, ◌⊎◌, IfOk};
+ghost use Rattle.plan_printing.specs.Faults.{no_memory};
 ghost use Rattle.plan_commands.specs.Faults as defined;
 
-use crate::fault::{PlanFault, no_memory};
 use plan_image::ImageFault;
+use plan_printing::{PlanFault, no_memory};
 use plan_text::Items;
 use plan_verify::VerifyFault;
 use std::alloc::{AllocError, Global};
@@ -25,7 +26,7 @@ fn at_offset(alloc: Global, offset: Option<u64>) -> Result<Vec<u8>, AllocError>
 /// Converts the reason why bytes aren't an image into the fault that is printed. Returns `no_memory` if memory runs
 /// out.
 pub fn printed_image_fault(alloc: Global, fault: ImageFault) -> PlanFault
-    ensures { (result ≡ defined.printed_image_fault fault) ⊎ (result ≡ defined.no_memory) }
+    ensures { (result ≡ defined.printed_image_fault fault) ⊎ (result ≡ no_memory) }
 {
     match at_offset(alloc, fault.offset()) {
         Ok(rest) => PlanFault {
@@ -55,7 +56,7 @@ fn at_edge(alloc: Global, edge: Option<u32>, place: Option<u32>) -> Result<Vec<u
 /// Converts the reason why an image can't be run into the fault that is printed. Returns `no_memory` if memory runs
 /// out.
 pub fn printed_verify_fault(alloc: Global, fault: VerifyFault) -> PlanFault
-    ensures { (result ≡ defined.printed_verify_fault fault) ⊎ (result ≡ defined.no_memory) }
+    ensures { (result ≡ defined.printed_verify_fault fault) ⊎ (result ≡ no_memory) }
 {
     match at_edge(alloc, fault.edge(), fault.place()) {
         Ok(rest) => PlanFault {

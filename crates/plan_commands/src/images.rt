@@ -6,9 +6,9 @@ ghost use Rattle.plan_commands.specs.Images.{IsImageAt, LacksImage, Dumps, Fails
 ghost use Rattle.plan_verify.specs.WellShaped.{IsWellShaped};
 ghost use Rattle.plan_commands.specs.Verdicts.{verdict_line, Accepts, IsRejected, FailsToAccept};
 
-use crate::fault::{PlanFault, file_fault, no_memory, output_fault};
 use crate::image_fault::{printed_image_fault, printed_verify_fault};
 use plan_image::{Image, listing, read_image};
+use plan_printing::{PlanFault, file_fault, no_memory, output_fault};
 use plan_scope::{Source, SourceFault};
 use plan_text::{Sink, write_all};
 use plan_verify::{Verified, verify, verify_by};

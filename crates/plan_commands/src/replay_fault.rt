@@ -2,10 +2,11 @@
 
 ghost use Rattle.std.specs.Prelude.{◌≡◌, ◌⊎◌, ◌++◌, IfOk};
 ghost use Rattle.std.specs.Fmt.{decimal};
+ghost use Rattle.plan_printing.specs.Faults.{no_memory};
 ghost use Rattle.plan_commands.specs.Faults as defined;
 
-use crate::fault::{PlanFault, no_memory};
 use plan_machine::Refused;
+use plan_printing::{PlanFault, no_memory};
 use plan_text::Items;
 use std::alloc::{AllocError, Global};
 
@@ -22,7 +23,7 @@ fn with_number(alloc: Global, words: &[u8], number: u64) -> Result<Vec<u8>, Allo
 /// Creates the fault that a line of a trace is malformed or not allowed there: 130, with the number of the line.
 /// Returns `no_memory` if memory runs out.
 pub fn trace_fault(alloc: Global, line: u64) -> PlanFault
-    ensures { (result ≡ defined.trace_fault line) ⊎ (result ≡ defined.no_memory) }
+    ensures { (result ≡ defined.trace_fault line) ⊎ (result ≡ no_memory) }
 {
     match with_number(alloc, b" at line ", line) {
         Ok(rest) => PlanFault {
@@ -36,7 +37,7 @@ pub fn trace_fault(alloc: Global, line: u64) -> PlanFault
 /// Creates the fault that an event isn't enabled: 110, with the number of the event. Returns `no_memory` if memory runs
 /// out.
 fn event_fault(alloc: Global, event: u64) -> PlanFault
-    ensures { (result ≡ defined.event_fault event) ⊎ (result ≡ defined.no_memory) }
+    ensures { (result ≡ defined.event_fault event) ⊎ (result ≡ no_memory) }
 {
     match with_number(alloc, b" at event ", event) {
         Ok(rest) => PlanFault {
@@ -50,7 +51,7 @@ fn event_fault(alloc: Global, event: u64) -> PlanFault
 /// Converts the reason why events can't be replayed into the fault that is printed. Adds the number of the event if the
 /// event isn't enabled. Returns `no_memory` if memory runs out.
 pub fn printed_refusal(alloc: Global, event: usize, refused: Refused) -> PlanFault
-    ensures { (result ≡ defined.printed_refusal event refused) ⊎ (result ≡ defined.no_memory) }
+    ensures { (result ≡ defined.printed_refusal event refused) ⊎ (result ≡ no_memory) }
 {
     match refused {
         Refused::NotEnabled => event_fault(alloc, event as u64),

@@ -6,13 +6,13 @@ ghost use Rattle.plan_scope.specs.Loading.{IsMissing};
 ghost use Rattle.plan_machine.specs.Kept.{IsStateOf};
 ghost use Rattle.plan_machine.specs.Replaying.{IsReplayFault};
 ghost use Rattle.plan_status.specs.Printing.{Prints};
-ghost use Rattle.plan_commands.specs.Faults as defined;
+ghost use Rattle.plan_printing.specs.Faults as defined;
 ghost use Rattle.plan_commands.specs.Replaying.{FailsToReplay, FailsToTell, IsNotReplayed, IsRun, IsTraceAt, LacksRun, LacksTrace, Replays, StopsTelling, Tells, TellsNoEvents, run_status, run_text};
 
-use crate::fault::{PlanFault, file_fault, no_memory, output_fault};
 use crate::images::verified_at;
 use crate::replay_fault::{printed_refusal, trace_fault};
 use plan_machine::{Mark, State, replay};
+use plan_printing::{PlanFault, file_fault, no_memory, output_fault};
 use plan_scope::{Source, SourceFault};
 use plan_status::{PrintFault, all_done, print, print_outcomes, prints_join};
 use plan_text::Sink;

@@ -1,15 +1,15 @@
 //! The targets that the command line names, and the edges that make them.
 
 ghost use Rattle.std.specs.Prelude.{◌≡◌, ◌⊎◌, Err, IfErr, IfOk, IfSome, Ok, map, ℕ, List, Some, OnOk, if◌then◌else◌};
-ghost use Rattle.plan_commands.specs.Faults as defined;
+ghost use Rattle.plan_printing.specs.Faults as defined;
 ghost use Rattle.plan_commands.specs.MakerMaps.{AreMakers, maker_in};
 ghost use Rattle.plan_commands.specs.Targets as meant;
 ghost use Rattle.std.specs.List.{list_any};
 ghost use Rattle.plan_image.specs.Makers.{first_maker, is_named};
 
-use crate::fault::{PlanFault, no_memory, unknown_target};
 use indexmap::IndexMap;
 use plan_image::{Image, Parts, edge_of};
+use plan_printing::{PlanFault, no_memory, unknown_target};
 use plan_text::{TextFault, canonical};
 use std::alloc::{AllocError, Global};
 

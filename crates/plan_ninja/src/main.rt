@@ -5,12 +5,14 @@ ghost use Rattle.std.specs.Prelude.{◌≡◌};
 
 use plan_cli::{EarlyExit, FileRequest, Request, RunWords, request_in, words_in};
 use plan_commands::{
-    Buffer, Build, Compared, FileSource, IMAGE_BYTES, MANIFEST_BYTES, NewFile, PlanFault, Screen,
-    Standard, TRACE_BYTES, do_commands, do_compare, do_compile, do_dump, do_replay, do_run,
-    do_verify, ended, file_fault, lost_output, no_memory, open_streams,
+    Build, Compared, do_commands, do_compare, do_compile, do_dump, do_replay, do_run, do_verify,
 };
 use plan_lanes::World;
 use plan_machine::Options;
+use plan_printing::{
+    Buffer, FileSource, IMAGE_BYTES, MANIFEST_BYTES, NewFile, PlanFault, Screen, Standard,
+    TRACE_BYTES, ended, file_fault, lost_output, no_memory, open_streams,
+};
 use plan_text::{Counted, Sink};
 use plan_world::{OpenFault, RealWorld, SystemShells};
 use std::alloc::{AllocError, Global};

@@ -1,9 +1,10 @@
 //! Builds of manifests in memory. In most worlds here, the edge that builds the manifest is out of date `rounds` times.
 
 use crate::fakes::{Failing, Generator, Listening, Touched, Versions};
-use plan_commands::{Done, Listed, Order, PlanFault, Printer, do_build, do_dry_build};
+use plan_commands::{Done, Listed, Order, Printer, do_build, do_dry_build};
 use plan_lanes::World;
 use plan_machine::Options;
+use plan_printing::PlanFault;
 use plan_status::StatusLines;
 use plan_text::{Counted, Sink};
 use std::alloc::{AllocError, Global};

@@ -3,6 +3,7 @@
 use crate::fakes::{Failing, File, Files, Fresh};
 use plan_commands::*;
 use plan_machine::Options;
+use plan_printing::{Buffer, PlanFault, ended, file_fault, lost_output, no_memory};
 use plan_text::{Counted, Sink};
 use std::alloc::Global;
 use std::mem::forget;

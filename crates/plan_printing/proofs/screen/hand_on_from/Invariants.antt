@@ -1,6 +1,6 @@
 use Rattle.std.proofs.Common.{◌≡◌, ◌≤◌, ◌-◌, length, drop}
 use Rattle.std.specs.Io.KnownBytes.{Keeps, append_known}
-use Rattle.plan_commands.proofs.screen.hand_on_from.Given as goal
+use Rattle.plan_printing.proofs.screen.hand_on_from.Given as goal
 
 -- Nothing is lost, and no write has failed.
 abbrev pub invariant-loop-place : goal.invariant-loop-place

@@ -1,15 +1,12 @@
 //! The tools that remove files.
 
-use crate::said::{REFUSED, complain_of, concatenate, reason_of};
-use crate::tool::fault::{ToolFault, fault_of};
-use crate::tool::loaded::{Loaded, load_manifest};
-use crate::tool::paths::paths_named;
-use crate::tool::words::Request;
-use crate::words::{is_verbose, manifest_in};
+use crate::fault::{ToolFault, fault_of};
+use crate::loaded::{Loaded, load_manifest};
+use crate::paths::paths_named;
+use crate::words::Request;
 use indexmap::IndexMap;
-use plan_commands::{Buffer, Standard};
 use plan_graph::Graph;
-use plan_options::CommandLine;
+use plan_printing::{Buffer, REFUSED, Standard, complain_of, concatenate, reason_of};
 use plan_text::{RowList, Sink, write_all};
 use plan_tools::{
     command_edges, dead_outputs, edges_of_paths, edges_of_rules, files_of_edges, needed_paths,
@@ -90,8 +87,8 @@ fn check_rules(alloc: Global, loaded: &Loaded, names: &[&[u8]]) -> Result<(), To
     Ok(())
 }
 
-/// Returns the files that a request asks to remove.
-fn batches(
+/// Returns the files in a graph that a request asks to remove.
+fn batches_in_graph(
     alloc: Global,
     loaded: &Loaded,
     graph: &Graph<'_>,
@@ -112,22 +109,65 @@ fn batches(
     Ok(batches)
 }
 
-/// The way in which files are removed.
-#[derive(Clone, Copy)]
-struct Manner {
-    /// Whether files are only counted, not removed.
-    is_dry: bool,
-    /// Whether the path of each removed file is printed.
-    is_verbose: bool,
+/// Returns the files in the graph of a manifest that a request asks to remove.
+fn batches_in_manifest(
+    alloc: Global,
+    loaded: &Loaded,
+    request: &Request<'_>,
+) -> Result<Vec<Batch>, ToolFault> {
+    let graph = loaded.graph(alloc)?;
+    batches_in_graph(alloc, loaded, &graph, request)
 }
 
-/// Returns the way in which a command line asks to remove files. A dry run is always verbose.
-fn manner_of(line: &CommandLine) -> Manner {
-    let is_dry = line.is_dry_run();
-    Manner {
-        is_dry,
-        is_verbose: is_dry || is_verbose(line),
-    }
+/// Returns the files in the manifest at a path that a request asks to remove.
+fn batches_in<R: Files + Eprint + AllocGlobal>(
+    rt: &R,
+    manifest: &[u8],
+    request: &Request<'_>,
+) -> Result<Vec<Batch>, ToolFault> {
+    let loaded = load_manifest(rt, manifest)?;
+    batches_in_manifest(rt.alloc(), &loaded, request)
+}
+
+/// Returns the given outputs that no build line of a graph names.
+fn dead_in_graph(
+    alloc: Global,
+    graph: &Graph<'_>,
+    outputs: &RowList<u8>,
+) -> Result<Batch, ToolFault> {
+    Ok(Batch {
+        heading: Vec::new(alloc),
+        files: dead_outputs(alloc, graph, outputs)?,
+    })
+}
+
+/// Returns the given outputs that no build line of a manifest names.
+fn dead_in_manifest(
+    alloc: Global,
+    loaded: &Loaded,
+    outputs: &RowList<u8>,
+) -> Result<Batch, ToolFault> {
+    let graph = loaded.graph(alloc)?;
+    dead_in_graph(alloc, &graph, outputs)
+}
+
+/// Returns the given outputs that no build line of the manifest at a path names.
+fn dead_in<R: Files + Eprint + AllocGlobal>(
+    rt: &R,
+    manifest: &[u8],
+    outputs: &RowList<u8>,
+) -> Result<Batch, ToolFault> {
+    let loaded = load_manifest(rt, manifest)?;
+    dead_in_manifest(rt.alloc(), &loaded, outputs)
+}
+
+/// The way in which files are removed.
+#[derive(Clone, Copy)]
+pub struct Manner {
+    /// Whether files are only counted, not removed.
+    pub is_dry: bool,
+    /// Whether the path of each removed file is printed.
+    pub is_verbose: bool,
 }
 
 /// Removes a file or an empty folder, and returns whether there was one.
@@ -156,6 +196,16 @@ struct Removal {
 }
 
 impl Removal {
+    /// Creates a removal that has removed nothing yet.
+    fn new(alloc: Global, manner: Manner) -> Removal {
+        Removal {
+            manner,
+            met: IndexMap::new(alloc),
+            count: 0,
+            has_failed: false,
+        }
+    }
+
     /// Removes a file, and returns whether it existed. A dry run only checks that. If the file can't be removed,
     /// reports the reason, but not for a path that isn't UTF-8.
     fn remove<R: Files + AllocGlobal, E: Print>(
@@ -231,35 +281,33 @@ impl Removal {
         }
         Ok(())
     }
-}
 
-/// Removes files, and writes their paths if the tool is verbose, and their number. Returns the exit status.
-fn remove_batches<R: Files + AllocGlobal, E: Print, W: Sink>(
-    rt: &R,
-    errors: &E,
-    manner: Manner,
-    batches: &[Batch],
-    out: &mut W,
-) -> Result<u8, ToolFault> {
-    let alloc = rt.alloc();
-    let mut removal = Removal {
-        manner,
-        met: IndexMap::new(alloc),
-        count: 0,
-        has_failed: false,
-    };
-    let end: &[u8] = if manner.is_verbose { b"\n" } else { b" " };
-    write_all(out, b"Cleaning...")?;
-    write_all(out, end)?;
-    for batch in batches {
-        removal.remove_batch(rt, errors, batch, out)?;
+    /// Removes the files of batches. Writes their paths if the tool is verbose, and their number.
+    fn remove_batches<R: Files + AllocGlobal, E: Print, W: Sink>(
+        &mut self,
+        rt: &R,
+        errors: &E,
+        batches: &[Batch],
+        out: &mut W,
+    ) -> Result<(), ToolFault> {
+        let end: &[u8] = if self.manner.is_verbose { b"\n" } else { b" " };
+        write_all(out, b"Cleaning...")?;
+        write_all(out, end)?;
+        for batch in batches {
+            self.remove_batch(rt, errors, batch, out)?;
+        }
+        write_all(out, self.count.to_string(rt.alloc())?.as_bytes())?;
+        write_all(out, b" files.\n")?;
+        Ok(())
     }
-    write_all(out, removal.count.to_string(alloc)?.as_bytes())?;
-    write_all(out, b" files.\n")?;
-    Ok(if removal.has_failed { REFUSED } else { 0 })
+
+    /// Returns the exit status of the tool.
+    fn status(&self) -> u8 {
+        if self.has_failed { REFUSED } else { 0 }
+    }
 }
 
-/// Removes files like `remove_batches`, and prints the lines to standard output. Returns the exit status.
+/// Removes the files of batches, and prints the lines on them to standard output. Returns the exit status.
 fn remove_printing<R: Files + Print + AllocGlobal, E: Print>(
     rt: &R,
     errors: &E,
@@ -268,10 +316,12 @@ fn remove_printing<R: Files + Print + AllocGlobal, E: Print>(
 ) -> Result<u8, ToolFault> {
     let room = Vec::with_capacity(rt.alloc(), OUTPUT_BUFFER)?;
     let mut out = Buffer::new(Standard::new(rt), room);
-    let status = remove_batches(rt, errors, manner, batches, &mut out);
+    let mut removal = Removal::new(rt.alloc(), manner);
+    let removed = removal.remove_batches(rt, errors, batches, &mut out);
     let (written, _out) = out.finish();
     written?;
-    status
+    removed?;
+    Ok(removal.status())
 }
 
 /// Removes files that commands made: all of them, those that targets need, or those of rules. Returns the exit status.
@@ -282,17 +332,15 @@ fn remove_printing<R: Files + Print + AllocGlobal, E: Print>(
 pub fn clean<R: Files + Print + Eprint + AllocGlobal, E: Print>(
     rt: &R,
     errors: &E,
-    line: &CommandLine,
+    manifest: &[u8],
+    manner: Manner,
     request: &Request<'_>,
 ) -> Result<u8, ToolFault> {
-    let alloc = rt.alloc();
     if request.has(b'r') && request.names.is_empty() {
-        return Err(fault_of(alloc, &[b"expected a rule to clean"]));
+        return Err(fault_of(rt.alloc(), &[b"expected a rule to clean"]));
     }
-    let loaded = load_manifest(rt, manifest_in(line))?;
-    let graph = loaded.graph(alloc)?;
-    let batches = batches(alloc, &loaded, &graph, request)?;
-    remove_printing(rt, errors, manner_of(line), &batches)
+    let batches = batches_in(rt, manifest, request)?;
+    remove_printing(rt, errors, manner, &batches)
 }
 
 /// Removes each of these outputs that no build line names. Returns the exit status.
@@ -302,16 +350,10 @@ pub fn clean<R: Files + Print + Eprint + AllocGlobal, E: Print>(
 pub fn clean_dead<R: Files + Print + Eprint + AllocGlobal, E: Print>(
     rt: &R,
     errors: &E,
-    line: &CommandLine,
+    manifest: &[u8],
+    manner: Manner,
     outputs: &RowList<u8>,
 ) -> Result<u8, ToolFault> {
-    let alloc = rt.alloc();
-    let loaded = load_manifest(rt, manifest_in(line))?;
-    let graph = loaded.graph(alloc)?;
-    let mut batches = Vec::new(alloc);
-    batches.push(Batch {
-        heading: Vec::new(alloc),
-        files: dead_outputs(alloc, &graph, outputs)?,
-    })?;
-    remove_printing(rt, errors, manner_of(line), &batches)
+    let batch = dead_in(rt, manifest, outputs)?;
+    remove_printing(rt, errors, manner, &[batch])
 }

@@ -1,13 +1,13 @@
 //! The tools that print parts of a manifest.
 
+use crate::fault::{ToolFault, fault_of};
+use crate::loaded::{Loaded, load_manifest};
+use crate::paths::{makers_of, paths_named};
 use crate::tool::Tool;
-use crate::tool::fault::{ToolFault, fault_of};
-use crate::tool::loaded::{Loaded, load_manifest};
-use crate::tool::paths::{makers_of, paths_named};
-use crate::tool::words::Request;
-use plan_commands::{Buffer, Standard};
+use crate::words::Request;
 use plan_graph::Graph;
 use plan_options::{Integer, integer_in};
+use plan_printing::{Buffer, Standard};
 use plan_text::Sink;
 use plan_tools::{
     build_order, chosen_edges, closest, default_paths, root_paths, write_all_targets,
@@ -183,7 +183,21 @@ fn write_listing<R: Env + AllocGlobal, W: Sink>(
     }
 }
 
-/// Prints the listing of a tool, and returns the exit status.
+/// Prints the listing of a tool to standard output. Returns the exit status.
+fn print_listing<R: Files + Env + Print + AllocGlobal>(
+    rt: &R,
+    loaded: &Loaded,
+    request: &Request<'_>,
+) -> Result<u8, ToolFault> {
+    let room = Vec::with_capacity(rt.alloc(), OUTPUT_BUFFER)?;
+    let mut out = Buffer::new(Standard::new(rt), room);
+    write_listing(rt, loaded, request, &mut out)?;
+    let (written, _out) = out.finish();
+    written?;
+    Ok(0)
+}
+
+/// Prints the listing of a tool for the manifest at a path, and returns the exit status.
 ///
 /// # Errors
 /// If the manifest or a word is refused, memory runs out, or standard output can't be written.
@@ -192,12 +206,6 @@ pub fn list<R: Files + Env + Print + Eprint + AllocGlobal>(
     manifest: &[u8],
     request: &Request<'_>,
 ) -> Result<u8, ToolFault> {
-    let alloc = rt.alloc();
     let loaded = load_manifest(rt, manifest)?;
-    let room = Vec::with_capacity(alloc, OUTPUT_BUFFER)?;
-    let mut out = Buffer::new(Standard::new(rt), room);
-    write_listing(rt, &loaded, request, &mut out)?;
-    let (written, _out) = out.finish();
-    written?;
-    Ok(0)
+    print_listing(rt, &loaded, request)
 }

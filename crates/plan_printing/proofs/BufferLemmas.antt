@@ -1,4 +1,4 @@
--- Lemmas about held bytes. Serves src/buffer.rt.
+-- Lemmas about held bytes. Serves src/screen.rt.
 use Rattle.std.proofs.Common.{◌+◌, ◌≤◌, ℕ, List, ◌++◌, Option, Some, None, length, take, drop, ap, sym, subst, ◌∙◌, ◌-◌, arith}
 use Rattle.std.specs.Io.KnownBytes.{Appends, Keeps, append_known}
 use Rattle.std.proofs.lemmas.List.{append_assoc, length-drop, take-append-drop, take_all, drop-drop}

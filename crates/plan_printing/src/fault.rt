@@ -2,7 +2,7 @@
 
 ghost use Rattle.std.specs.Prelude.{◌≡◌, ◌⊎◌, ◌∷◌, IfOk};
 ghost use Rattle.plan_text.specs.Bytes.{space};
-ghost use Rattle.plan_commands.specs.Faults as defined;
+ghost use Rattle.plan_printing.specs.Faults as defined;
 
 use plan_scope::ScopeFault;
 use plan_text::Items;

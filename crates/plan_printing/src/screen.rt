@@ -2,8 +2,8 @@
 
 ghost use Rattle.std.specs.Prelude.{◌≡◌, ◌≤◌, ◌+◌, ◌++◌, ◌⊎◌, [], Err, IfErr, IfOk, Ok, OnOk, drop, is_ok, length, if◌then◌else◌, vec_capacity, vec_len};
 ghost use Rattle.std.specs.Io.KnownBytes.{Keeps, append_known};
-ghost use Rattle.plan_commands.specs.Buffers.{buffered, seen};
-ghost use Rattle.plan_commands.specs.Faults as defined;
+ghost use Rattle.plan_printing.specs.Buffers.{buffered, seen};
+ghost use Rattle.plan_printing.specs.Faults as defined;
 
 use crate::fault::{PlanFault, lost_output};
 use plan_text::{GhostCounter, Sink, SinkFault};
@@ -158,7 +158,7 @@ pub struct Buffer<W> {
 
 impl<W> Model for Buffer<W> {
     ghost use Rattle.std.specs.Prelude.{◌≤◌, drop, length};
-    ghost use Rattle.plan_commands.specs.Buffers.{Buffered, buffered};
+    ghost use Rattle.plan_printing.specs.Buffers.{Buffered, buffered};
 
     ghost Value = { Buffered W };
 
@@ -247,7 +247,7 @@ pub fn ended<W: Sink>(
 }
 
 impl<W: Sink> Sink for Buffer<W> {
-    ghost use Rattle.plan_commands.specs.Buffers.{seen};
+    ghost use Rattle.plan_printing.specs.Buffers.{seen};
 
     ghost failures = { λ b. W.failures b.out };
 

@@ -1,20 +1,19 @@
 //! The tools that read or change the record of builds.
 
-use crate::tool::clean::clean_dead;
-use crate::tool::fault::ToolFault;
-use crate::tool::loaded::load_manifest;
-use crate::words::RECORD;
-use plan_commands::file_fault;
-use plan_options::CommandLine;
+use crate::clean::{Manner, clean_dead};
+use crate::fault::ToolFault;
+use crate::loaded::load_manifest;
+use crate::tool::BuildFiles;
+use plan_printing::file_fault;
 use plan_text::RowList;
 use plan_world::{OpenFault, recompact, recorded_outputs, restat};
 use std::alloc::Global;
 
 /// Returns the fault of a record that can't be used.
-fn record_fault(alloc: Global, fault: OpenFault) -> ToolFault {
+fn record_fault(alloc: Global, record: &str, fault: OpenFault) -> ToolFault {
     match fault {
         OpenFault::Memory => ToolFault::Memory,
-        OpenFault::Device => ToolFault::Plan(file_fault(alloc, RECORD.as_bytes())),
+        OpenFault::Device => ToolFault::Plan(file_fault(alloc, record.as_bytes())),
     }
 }
 
@@ -22,11 +21,11 @@ fn record_fault(alloc: Global, fault: OpenFault) -> ToolFault {
 ///
 /// # Errors
 /// If the manifest is refused, the record can't be read or written, or memory runs out.
-pub fn recompact_record(rt: &HostRuntime, manifest: &[u8]) -> Result<u8, ToolFault> {
-    drop(load_manifest(rt, manifest)?);
-    match recompact(rt, RECORD) {
+pub fn recompact_record(rt: &HostRuntime, files: BuildFiles<'_>) -> Result<u8, ToolFault> {
+    drop(load_manifest(rt, files.manifest)?);
+    match recompact(rt, files.record) {
         Ok(()) => Ok(0),
-        Err(fault) => Err(record_fault(rt.alloc(), fault)),
+        Err(fault) => Err(record_fault(rt.alloc(), files.record, fault)),
     }
 }
 
@@ -35,18 +34,18 @@ pub fn recompact_record(rt: &HostRuntime, manifest: &[u8]) -> Result<u8, ToolFau
 ///
 /// # Errors
 /// If the record can't be read or written, or memory runs out.
-pub fn restat_record(rt: &HostRuntime, outputs: &[&[u8]]) -> Result<u8, ToolFault> {
-    match restat(rt, RECORD, outputs) {
+pub fn restat_record(rt: &HostRuntime, record: &str, outputs: &[&[u8]]) -> Result<u8, ToolFault> {
+    match restat(rt, record, outputs) {
         Ok(()) => Ok(0),
-        Err(fault) => Err(record_fault(rt.alloc(), fault)),
+        Err(fault) => Err(record_fault(rt.alloc(), record, fault)),
     }
 }
 
 /// Returns the outputs that the record has entries of.
-fn outputs_recorded(rt: &HostRuntime) -> Result<RowList<u8>, ToolFault> {
-    match recorded_outputs(rt, RECORD) {
+fn outputs_recorded(rt: &HostRuntime, record: &str) -> Result<RowList<u8>, ToolFault> {
+    match recorded_outputs(rt, record) {
         Ok(outputs) => Ok(outputs),
-        Err(fault) => Err(record_fault(rt.alloc(), fault)),
+        Err(fault) => Err(record_fault(rt.alloc(), record, fault)),
     }
 }
 
@@ -57,8 +56,9 @@ fn outputs_recorded(rt: &HostRuntime) -> Result<RowList<u8>, ToolFault> {
 pub fn clean_recorded<E: Print>(
     rt: &HostRuntime,
     errors: &E,
-    line: &CommandLine,
+    files: BuildFiles<'_>,
+    manner: Manner,
 ) -> Result<u8, ToolFault> {
-    let outputs = outputs_recorded(rt)?;
-    clean_dead(rt, errors, line, &outputs)
+    let outputs = outputs_recorded(rt, files.record)?;
+    clean_dead(rt, errors, files.manifest, manner, &outputs)
 }

@@ -1,24 +1,13 @@
 //! The tools that `-t` runs.
 
-mod clean;
-mod fault;
-mod listing;
-mod loaded;
-mod paths;
-mod record;
-mod words;
-
 ghost use Rattle.std.specs.Prelude.{◌≡◌};
 
-use crate::said::{REFUSED, complain, say, status_after};
-use crate::tool::clean::clean;
-pub use crate::tool::fault::refuse_tool;
-use crate::tool::listing::list;
-pub use crate::tool::paths::{Named, named_in};
-use crate::tool::record::{clean_recorded, recompact_record, restat_record};
-pub use crate::tool::words::{Request, request_in};
-use crate::words::manifest_in;
-use plan_options::CommandLine;
+use crate::clean::{Manner, clean};
+use crate::fault::ToolFault;
+use crate::listing::list;
+use crate::record::{clean_recorded, recompact_record, restat_record};
+use crate::words::Request;
+use plan_printing::{REFUSED, complain, say, status_after};
 use plan_tools::closest;
 use std::alloc::Global;
 
@@ -160,21 +149,34 @@ fn list_tools<R: Print + AllocGlobal, E: Print>(rt: &R, errors: &E) -> u8 {
     status_after(say(rt, errors, &lines), 0)
 }
 
-/// Runs the tool of a request, and returns the exit status.
-pub fn run_tool(rt: &HostRuntime, line: &CommandLine, request: &Request<'_>) -> u8 {
-    let errors = rt.stderr();
-    let manifest = manifest_in(line);
-    let done = match request.tool {
-        // `-t explain` is a build (`Builder::explain`).
-        Tool::Explain | Tool::List => return list_tools(rt, &errors),
-        Tool::Clean => clean(rt, &errors, line, request),
-        Tool::CleanDead => clean_recorded(rt, &errors, line),
-        Tool::Recompact => recompact_record(rt, manifest),
-        Tool::Restat => restat_record(rt, &request.names),
+/// The files of a build that a tool works on.
+#[derive(Clone, Copy)]
+pub struct BuildFiles<'a> {
+    /// The path of the manifest.
+    pub manifest: &'a [u8],
+    /// The path of the record.
+    pub record: &'a str,
+}
+
+/// Runs the tool of a request on the files of a build, and returns the exit status. Files are removed in this manner.
+/// `-t explain` is a build, so this function lists the tools for it.
+///
+/// # Errors
+/// The reason why the tool is refused. It isn't reported yet.
+pub fn run_tool<E: Print>(
+    rt: &HostRuntime,
+    errors: &E,
+    files: BuildFiles<'_>,
+    manner: Manner,
+    request: &Request<'_>,
+) -> Result<u8, ToolFault> {
+    let BuildFiles { manifest, record } = files;
+    match request.tool {
+        Tool::Explain | Tool::List => Ok(list_tools(rt, errors)),
+        Tool::Clean => clean(rt, errors, manifest, manner, request),
+        Tool::CleanDead => clean_recorded(rt, errors, files, manner),
+        Tool::Recompact => recompact_record(rt, files),
+        Tool::Restat => restat_record(rt, record, &request.names),
         Tool::Commands | Tool::CompilationDatabase | Tool::Targets => list(rt, manifest, request),
-    };
-    match done {
-        Ok(status) => status,
-        Err(fault) => refuse_tool(rt, &errors, manifest, &fault),
     }
 }

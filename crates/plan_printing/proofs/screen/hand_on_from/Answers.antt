@@ -1,6 +1,6 @@
 use Rattle.std.proofs.Common.{rules}
-use Rattle.plan_commands.proofs.BufferLemmas.{rest_handed_on, keeps_on}
-use Rattle.plan_commands.proofs.screen.hand_on_from.Goals as goal
+use Rattle.plan_printing.proofs.BufferLemmas.{rest_handed_on, keeps_on}
+use Rattle.plan_printing.proofs.screen.hand_on_from.Goals as goal
 
 pub loop-place-preserved : goal.loop-place-preserved
 loop-place-preserved g c =

@@ -3,7 +3,7 @@
 ghost use Rattle.std.specs.Prelude.{◌≡◌, ◌⊎◌, ◌++◌, ◌∷◌, IfOk, OnOk, codes, flat_map};
 ghost use Rattle.std.specs.List.{join_by};
 ghost use Rattle.plan_text.specs.Bytes.{space};
-ghost use Rattle.plan_commands.specs.Faults as defined;
+ghost use Rattle.plan_printing.specs.Faults as defined;
 
 use crate::fault::{PlanFault, no_memory};
 use plan_graph::GraphFault;

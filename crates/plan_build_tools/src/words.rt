@@ -1,8 +1,8 @@
 //! The words of a tool.
 
-use crate::said::{REFUSED, complain, say, status_after};
 use crate::tool::Tool;
 use plan_options::{operands, option_letters};
+use plan_printing::{REFUSED, complain, say, status_after};
 use plan_text::Memory;
 use std::alloc::Global;
 

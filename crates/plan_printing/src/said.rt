@@ -1,4 +1,4 @@
-//! Output of lines and error messages.
+//! Lines and error messages of plan_build.
 
 ghost use Rattle.std.specs.Prelude.{◌≡◌, IfErr, OnOk};
 
@@ -6,7 +6,7 @@ use std::alloc::{AllocError, Global};
 use std::io;
 use std::io::{ErrorKind, Write};
 
-/// The exit status if the command line or a manifest is refused, or if a build fails.
+/// The exit status of plan_build if the command line or a manifest is refused, or if a build fails.
 pub const REFUSED: u8 = 1;
 
 /// The error message for a failed write to standard output.

@@ -1,12 +1,9 @@
 //! Faults of tools.
 
-use crate::refusal::refuse;
-use crate::said::{REFUSED, complain, concatenate};
-use plan_commands::{PlanFault, lost_output, no_memory};
+use plan_printing::{PlanFault, concatenate};
 use plan_text::{Memory, SinkFault};
 use plan_tools::{OrderFault, TreeFault};
 use std::alloc::{AllocError, AllocFailed, Global};
-use std::rt::Files;
 
 /// The reason why a tool is refused.
 #[derive(Drop)]
@@ -65,24 +62,5 @@ pub fn fault_of(alloc: Global, parts: &[&[u8]]) -> ToolFault {
     match concatenate(alloc, parts) {
         Ok(text) => ToolFault::Said(text),
         Err(_) => ToolFault::Memory,
-    }
-}
-
-/// Reports why a tool is refused, and returns the exit status.
-pub fn refuse_tool<R: Files + Eprint + AllocGlobal, E: Print>(
-    rt: &R,
-    errors: &E,
-    manifest: &[u8],
-    fault: &ToolFault,
-) -> u8 {
-    let alloc = rt.alloc();
-    match fault {
-        ToolFault::Memory => refuse(rt, errors, manifest, &no_memory(alloc)),
-        ToolFault::LostOutput => refuse(rt, errors, manifest, &lost_output(alloc)),
-        ToolFault::Plan(fault) => refuse(rt, errors, manifest, fault),
-        ToolFault::Said(text) => {
-            complain(alloc, errors, &[b"ninja: error: ", text.as_slice(), b"\n"]);
-            REFUSED
-        }
     }
 }

@@ -1,9 +1,9 @@
 //! Manifests that tools read.
 
-use crate::tool::fault::ToolFault;
-use plan_commands::{FileSource, MANIFEST_BYTES, printed_fault, printed_graph_fault};
+use crate::fault::ToolFault;
 use plan_graph::{Graph, graph};
 use plan_parse::DirectiveKind;
+use plan_printing::{FileSource, MANIFEST_BYTES, printed_fault, printed_graph_fault};
 use plan_scope::{Manifest, Said, Tree, evaluate, load};
 use plan_text::RowList;
 use plan_tools::rules_of;

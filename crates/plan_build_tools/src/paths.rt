@@ -1,7 +1,7 @@
 //! The paths that words name.
 
-use crate::tool::fault::{ToolFault, fault_of};
-use crate::tool::loaded::load_manifest;
+use crate::fault::{ToolFault, fault_of};
+use crate::loaded::{Loaded, load_manifest};
 use plan_graph::Graph;
 use plan_text::{RowList, TextFault, canonical};
 use plan_tools::closest_path;
@@ -152,20 +152,15 @@ fn check_source<R: Files + AllocGlobal>(rt: &R, path: &[u8]) -> Result<(), ToolF
     ))
 }
 
-/// Returns the paths that words name in a manifest.
-///
-/// # Errors
-/// If the manifest is refused, a word names no path of its graph, the file of a source is missing, or memory runs out.
-pub fn named_in<R: Files + Eprint + AllocGlobal>(
+/// Returns the paths that words name in a graph.
+fn named_in_graph<R: Files + AllocGlobal>(
     rt: &R,
-    manifest: &[u8],
+    graph: &Graph<'_>,
     words: &[&[u8]],
 ) -> Result<Named, ToolFault> {
     let alloc = rt.alloc();
-    let loaded = load_manifest(rt, manifest)?;
-    let graph = loaded.graph(alloc)?;
     let mut rows = RowList::new(alloc);
-    for path in paths_named(alloc, &graph, words)? {
+    for path in paths_named(alloc, graph, words)? {
         let text = graph.files.path(path as usize).unwrap_or(b"");
         match graph.files.producer_at(path as usize) {
             Some(_) => rows.push(text)?,
@@ -176,4 +171,27 @@ pub fn named_in<R: Files + Eprint + AllocGlobal>(
         return Ok(Named::Sources);
     }
     Ok(Named::Targets(Paths { rows }))
+}
+
+/// Returns the paths that words name in the graph of a manifest.
+fn named_in_manifest<R: Files + AllocGlobal>(
+    rt: &R,
+    loaded: &Loaded,
+    words: &[&[u8]],
+) -> Result<Named, ToolFault> {
+    let graph = loaded.graph(rt.alloc())?;
+    named_in_graph(rt, &graph, words)
+}
+
+/// Returns the paths that words name in the manifest at a path.
+///
+/// # Errors
+/// If the manifest is refused, a word names no path of its graph, the file of a source is missing, or memory runs out.
+pub fn named_in<R: Files + Eprint + AllocGlobal>(
+    rt: &R,
+    manifest: &[u8],
+    words: &[&[u8]],
+) -> Result<Named, ToolFault> {
+    let loaded = load_manifest(rt, manifest)?;
+    named_in_manifest(rt, &loaded, words)
 }

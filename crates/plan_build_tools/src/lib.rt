@@ -1,0 +1,26 @@
+//! The tools of plan_build: what `-t` runs. plan_tools chooses and writes what a tool lists or removes; this crate reads
+//! manifests and the record, removes files, and prints.
+//!
+//! - `Tool`, `tool_named`, `unknown_tool`: the tools by their names.
+//! - `Request`, `request_in`: the words of a command line for a tool.
+//! - `run_tool`: runs a tool on the files of a build (`BuildFiles`). It removes files in a `Manner`.
+//! - `named_in`: the paths that words name in a manifest (`Named`, `Paths`).
+//! - `ToolFault`: the reason why a tool is refused.
+//!
+//! docs/rules/tools.md and docs/rules/command-line.md have the rules one by one.
+#![tactic(auto)]
+
+mod clean;
+mod fault;
+mod listing;
+mod loaded;
+mod paths;
+mod record;
+mod tool;
+mod words;
+
+pub use clean::Manner;
+pub use fault::ToolFault;
+pub use paths::{Named, Paths, named_in};
+pub use tool::{BuildFiles, Tool, run_tool, tool_named, unknown_tool};
+pub use words::{Request, request_in};
