@@ -8,10 +8,18 @@ edit is refused if the prover says that a goal of a function that it changes is 
 answer instead, because the answer names a value that the edit changed, the edit has to say so in a line
 `refused-in-answer:`. A line `check: module::function` names the function to check if it isn't the changed one. If a
 definition of specs/ is changed and there is no such line, the whole crate is checked. Edits of a crate that change
-different functions are tried at once, since each check takes some ten seconds before its first function. An edit that
-isn't refused that way is tried by itself. With --gate only the edits of tests/must_fail are tried, and otherwise those
-of tests/edits too. With --fit none is tried: each text that an edit replaces must stand once in its file, also of those
-that tools/wrong_bodies.py tries. The last line is `N passed, M failed`.
+different functions are tried at once, since each check takes some ten seconds before its first function. An edit is not
+tried at once with an edit of a function that it calls, because one could be refused for the other's mistake. An edit
+that isn't refused that way is tried by itself. With --gate only the edits of tests/must_fail are tried, and otherwise
+those of tests/edits too. With --fit none is tried: each text that an edit replaces must stand once in its file, also of
+those that tools/wrong_bodies.py tries. The last line is `N passed, M failed`.
+
+Each line on an edit says `N=..`: how many functions a check of the edit checks, those that it changes and all that they
+call in their crate. An edit costs what its N costs, so an edit of the gate whose N is 15 or more counts as failed. If
+an edit is tried by itself, N is the prover's own count. If edits are tried at once, the prover counts the functions of
+all. Then N of an edit is the number of those that the changed function reaches in the call graph (call_graph.py), and
+of those that the graph lacks. The graph has too many calls rather than too few. So an edit with 15 or more by the graph
+is tried by itself, and the prover's count decides.
 """
 from __future__ import annotations
 
@@ -27,17 +35,21 @@ import time
 from collections.abc import Iterator, Sequence
 from typing import NamedTuple
 
+import call_graph
 import over_sources
 import tests_path  # noqa: F401: it makes lib known
 from lib import programs
 
 ROOT = pathlib.Path(__file__).resolve().parent.parent
 GATE, OTHER = "must_fail", "edits"
+LIMIT = 15  # an edit of the gate has fewer functions checked
 BLOCK = re.compile(r"^(?:(?:unsafe )?impl\b|(?:pub(?:\([^)]*\))? )?trait \w)[^{]*\{", re.MULTILINE)
 ITEM = re.compile(r"impl(?:<.*?>)? (?:(?P<trait>[\w:]+)(?:<[^{]*?>)? for )?(?P<type>[\w:]+)|trait (?P<name>\w+)")
 FUNCTION = re.compile(r"^(?P<indent> *)(?:pub(?:\([^)]*\))? )?(?:const |unsafe )*fn (?P<name>\w+)")
 GOAL = "it is not proved that"
 CHECKED = re.compile(r"^fn (\S+): (?!no holes|proved)")
+LISTED = re.compile(r"^fn (\w+)::(?!(?:\S*::)?fn::)(?:\S*::)?(\S+): ", re.MULTILINE)  # the prover counts no closures
+COUNT = re.compile(r"^only=(\d+)\b", re.MULTILINE)
 ANSWER = re.compile(r"Answers\.antt|Invariants\.antt|Proof\.antt")
 
 
@@ -56,6 +68,14 @@ class Edit(NamedTuple):
     @property
     def crate(self) -> str:
         return self.path.parent.name
+
+
+class Result(NamedTuple):
+    """How an edit ended: if it was refused as it must be, a line on it, and how many functions a check of it checks."""
+
+    passed: bool
+    said: str
+    count: int | None = None
 
 
 def read(path: pathlib.Path) -> Edit:
@@ -148,17 +168,67 @@ def apply(edit: Edit, home: pathlib.Path) -> list[str]:
     return [name.rstrip(":") for name in names]
 
 
-def verdict(edit: Edit, status: int, log: str) -> tuple[bool, str]:
-    """Returns whether an edit was refused as it must be, and what to say of it."""
+class Reach:
+    """What the functions of a crate call in it, by the plain call graph, and how many of them an edit may reach."""
+
+    def __init__(self, is_gate: bool) -> None:
+        self.program, self.is_gate = call_graph.Program(), is_gate
+        self.known: dict[call_graph.Function, set[call_graph.Function]] = {}
+
+    def is_high(self, count: int | None) -> bool:
+        """Returns whether an edit of the gate has too many functions checked, or nobody counted them."""
+        return self.is_gate and (count is None or count >= LIMIT)
+
+    def named(self, crate: str, name: str) -> list[call_graph.Function]:
+        """Returns the functions of a crate by a name as `functions` returns it, or as a line `check:` has it."""
+        before, _, last = name.rpartition("::")
+        found = []
+        for function in self.program.functions:
+            if function.crate == crate and function.name == last:
+                home = module_of(str(function.file.relative_to(ROOT / "crates" / crate))).rstrip(":")
+                owners = (function.type, function.type + function.trait) if function.type else (home,)
+                if before in owners or before.rpartition("::")[2] in owners:
+                    found.append(function)
+        return found
+
+    def changed(self, edit: Edit, names: Sequence[str]) -> set[call_graph.Function]:
+        """Returns the functions with these names, which an edit changes, without their bodies."""
+        return {function._replace(body="") for name in names for function in self.named(edit.crate, name)}
+
+    def calls(self, function: call_graph.Function) -> set[call_graph.Function]:
+        """Returns what a function calls. A method of a type parameter doesn't count: the prover takes its contract."""
+        if function not in self.known:
+            self.known[function] = set(self.program.calls(function, bounds=False))
+        return self.known[function]
+
+    def reached(self, edit: Edit, names: Sequence[str]) -> set[call_graph.Function]:
+        """Returns the functions with these names and all of the crate that they call, also by an edit's new text."""
+        new = "\n".join(change.new for change in edit.changes)
+        waiting = [function._replace(body=f"{function.body}\n{new}")
+                   for name in names for function in self.named(edit.crate, name)]
+        done: set[call_graph.Function] = set()
+        while waiting:
+            function = waiting.pop()
+            known = function._replace(body="")
+            if known not in done and function.crate == edit.crate:
+                done.add(known)
+                waiting.extend(self.calls(function))
+        return done
+
+
+def verdict(edit: Edit, status: int, log: str) -> Result:
+    """Returns how an edit ended that was tried by itself."""
+    counted = COUNT.search(log)
+    count = int(counted[1]) if counted else None
     line = next((line for line in log.splitlines() if GOAL in line), None)
     if line is not None:
-        return True, line.strip()
+        return Result(True, line.strip(), count)
     if status == 0:
-        return False, "NOT REFUSED"
+        return Result(False, "NOT REFUSED", count)
     if edit.reason and ANSWER.search(log):
-        return True, "refused in an answer, for the reason that the edit gives"
+        return Result(True, "refused in an answer, for the reason that the edit gives", count)
     found = next((line for line in log.splitlines() if "error:" in line or "error[" in line), "")
-    return False, f"BAD EDIT, status {status}: {found.strip() or log[-600:].strip()}"
+    return Result(False, f"BAD EDIT, status {status}: {found.strip() or log[-600:].strip()}", count)
 
 
 def copy_crate(crate: str, home: pathlib.Path) -> None:
@@ -170,12 +240,12 @@ def copy_crate(crate: str, home: pathlib.Path) -> None:
             shutil.copytree(source / part, home / part)
 
 
-def try_one(edit: Edit, words: Sequence[str], home: pathlib.Path) -> tuple[bool, str]:
+def try_one(edit: Edit, words: Sequence[str], home: pathlib.Path) -> Result:
     """Tries one edit in a copy of its crate."""
     copy_crate(edit.crate, home)
     misfit = next(misfits(edit, edit.crate), None)
     if misfit:
-        return False, f"BAD EDIT: {misfit}"
+        return Result(False, f"BAD EDIT: {misfit}")
     only = [word for name in apply(edit, home) for word in ("--only", name)]
     done = subprocess.run([*words, *only], cwd=home, stdout=subprocess.PIPE, stderr=subprocess.STDOUT)
     return verdict(edit, done.returncode, done.stdout.decode(errors="replace"))
@@ -194,57 +264,83 @@ def refusals(log: str) -> dict[str, str]:
     return found
 
 
-def make_together(edits: Sequence[Edit], home: pathlib.Path) -> dict[pathlib.Path, list[str]]:
-    """Makes edits of different functions in one copy of their crate. Returns those that are made, and what they change.
+class Made(NamedTuple):
+    """An edit that is made in a copy together with others: the names of what it changes, and what it reaches."""
+
+    edit: Edit
+    names: list[str]
+    changed: set[call_graph.Function]
+    reached: set[call_graph.Function]
+
+
+def make_together(edits: Sequence[Edit], home: pathlib.Path, reach: Reach) -> list[Made]:
+    """Makes edits of different functions in one copy of their crate. Returns those that are made.
 
     An edit is left out if it gives a reason or names a function to check, changes a definition, or changes a function
-    or a text that an earlier edit changes.
+    or a text that an earlier edit changes. It is left out too if one of the two calls what the other changes, and in
+    the gate if it seems to reach too many functions.
     """
-    changed: dict[pathlib.Path, list[str]] = {}
+    made: list[Made] = []
     copy_crate(edits[0].crate, home)
     for edit in edits:
         of_code = all(file.startswith("src/") for file, _, _ in edit.changes)
         if edit.reason or edit.checked or not of_code or next(misfits(edit, edit.crate, home), None):
             continue
-        taken = {name for names in changed.values() for name in names}
         names = functions(edit, home)
-        if taken.isdisjoint(names) and not any(name.endswith("::") or not name for name in names):
-            changed[edit.path] = apply(edit, home)
-    return changed
+        changed, reached = reach.changed(edit, names), reach.reached(edit, names)
+        if any(name.endswith("::") or not name for name in names) or reach.is_high(len(reached)):
+            continue
+        if all(one.changed.isdisjoint(reached) and changed.isdisjoint(one.reached)
+               and set(names).isdisjoint(one.names) for one in made):
+            apply(edit, home)
+            made.append(Made(edit, names, changed, reached))
+    return made
 
 
-def refused_together(changed: dict[pathlib.Path, list[str]], words: Sequence[str],
-                     home: pathlib.Path) -> dict[pathlib.Path, str]:
-    """Checks what edits change that are made in one copy. Returns those that are refused, with the reason."""
-    only = [word for names in changed.values() for name in names for word in ("--only", name)]
+def try_together(made: Sequence[Made], words: Sequence[str], home: pathlib.Path) -> dict[pathlib.Path, Result]:
+    """Checks what edits change that are made in one copy, and prints a line. Returns those that are refused."""
+    begun = time.monotonic()
+    only = [word for one in made for name in one.names for word in ("--only", name)]
     done = subprocess.run([*words, "--allow-holes", *only], cwd=home, stdout=subprocess.PIPE, stderr=subprocess.STDOUT)
-    found = refusals(done.stdout.decode(errors="replace"))
-    goals = {path: [goal for name, goal in found.items() if name.endswith(tuple(f"::{it}" for it in names))]
-             for path, names in changed.items()}
-    return {path: own[0] for path, own in goals.items() if own}
+    log = done.stdout.decode(errors="replace")
+    checked = [name for crate, name in LISTED.findall(log) if crate == made[0].edit.crate]
+    found = refusals(log)
+    known = {function.name for one in made for function in one.reached}
+    refused = {}
+    for edit, names, _, reached in made:
+        ends = tuple(f"::{name}" for name in names)
+        goal = next((goal for name, goal in found.items() if name.endswith(ends)), None)
+        own = {function.name for function in reached}
+        if goal:
+            refused[edit.path] = Result(True, goal, sum(name in own or name not in known for name in checked))
+    count = COUNT.search(log)
+    print(f"{made[0].edit.crate}: {len(refused)} of {len(made)} edits refused at once, "
+          f"{time.monotonic() - begun:.0f} s, N={count[1] if count else '?'}", flush=True)
+    return refused
 
 
-def try_all(edits: Sequence[Edit], proved: pathlib.Path, folder: pathlib.Path) -> list[bool]:
+def try_all(edits: Sequence[Edit], proved: pathlib.Path, folder: pathlib.Path, reach: Reach) -> list[bool]:
     """Tries edits of one crate, first many at once and then the others one after another, and prints how each ended."""
-    crate, refused = edits[0].crate, []
+    crate, passed = edits[0].crate, []
     home = folder / crate
     home.mkdir()
     words = [*over_sources.words(crate, over_sources.crates(), proved), "--incremental", str(folder / f"kept-{crate}")]
     left, together = list(edits), {}
-    while left and len(changed := make_together(left, home)) > 1:
-        begun = time.monotonic()
-        found = refused_together(changed, words, home)
-        together.update(found)
-        left = [edit for edit in left if edit.path not in changed]
-        took = f"{time.monotonic() - begun:.0f} s"
-        print(f"{crate}: {len(found)} of {len(changed)} edits refused at once, {took}", flush=True)
+    while left and len(made := make_together(left, home, reach)) > 1:
+        together.update(try_together(made, words, home))
+        left = [edit for edit in left if all(edit is not one.edit for one in made)]
     for edit in edits:
-        begun = time.monotonic()
-        passed, said = (True, together[edit.path]) if edit.path in together else try_one(edit, words, home)
-        took = "at once" if edit.path in together else f"{time.monotonic() - begun:.0f} s"
-        print(f"{edit.path.relative_to(ROOT)}: {'refused' if passed else 'FAILED'}, {took}: {said}", flush=True)
-        refused.append(passed)
-    return refused
+        begun, took = time.monotonic(), "at once"
+        result = together.get(edit.path)
+        if result is None or reach.is_high(result.count):
+            result = try_one(edit, words, home)
+            took = f"{time.monotonic() - begun:.0f} s"
+        if result.passed and reach.is_high(result.count):
+            result = result._replace(passed=False, said=f"N must be below {LIMIT}: change a function that calls less")
+        print(f"{edit.path.relative_to(ROOT)}: {'refused' if result.passed else 'FAILED'}, {took}, "
+              f"N={'?' if result.count is None else result.count}: {result.said}", flush=True)
+        passed.append(result.passed)
+    return passed
 
 
 def libraries(folder: pathlib.Path) -> pathlib.Path:
@@ -259,7 +355,7 @@ def libraries(folder: pathlib.Path) -> pathlib.Path:
 def main() -> None:
     parser = argparse.ArgumentParser(description=__doc__, formatter_class=argparse.RawDescriptionHelpFormatter)
     parser.add_argument("crates", metavar="CRATE", nargs="+")
-    parser.add_argument("--gate", action="store_true", help="only those of tests/must_fail")
+    parser.add_argument("--gate", action="store_true", help=f"only those of tests/must_fail, with N below {LIMIT}")
     parser.add_argument("--fit", action="store_true", help="look whether they fit the code, and try none")
     parser.add_argument("--jobs", type=int, default=os.cpu_count() or 1, help="checks side by side, of 1 to 3 GB")
     parser.add_argument("--proved", type=lambda path: pathlib.Path(path).resolve(),
@@ -279,7 +375,8 @@ def main() -> None:
         if not any(proved.glob("*.rlib")):
             parser.error(f"no proved libraries in {asked.proved or 'crates/*/out'}: run rt ci first")
         todo = sorted((own for own in edits if own), key=len, reverse=True)
-        refused = [passed for own in lanes.map(lambda own: try_all(own, proved, folder), todo) for passed in own]
+        reach = Reach(asked.gate)
+        refused = [passed for own in lanes.map(lambda own: try_all(own, proved, folder, reach), todo) for passed in own]
     programs.end(sum(refused), len(refused) - sum(refused))
 
 
