@@ -94,7 +94,6 @@ EDIT_JOBS = $(shell awk -v n=$$(nproc) '/^MemAvailable/ {m = int($$2 / 4000000);
 .PHONY: check
 check: kit
 	python3 tools/gate.py
-	$(MAKE) tests
 
 # The unit tests, compiled without proofs.
 .PHONY: units
