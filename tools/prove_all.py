@@ -3,8 +3,8 @@
 
 `rt ci` also proves unit tests, and each crate that has some a second time: more than half as much work as all the rest.
 A proof of a test says nothing of the programs, so the gate runs tests without proofs (tools/unit_tests.py). Here `rt
-ci` is run on a copy of the repository in which crates that only have tests, or data for them, are missing, and so are
-the modules below `#[cfg(test)]`. Before that, the layout of all files is checked, those of tests too. What `rt ci`
+ci` is run on a copy of the repository in which crates that only have tests are missing, and so are the modules
+below `#[cfg(test)]`. Before that, the layout of all files is checked, those of tests too. What `rt ci`
 makes is moved to crates/*/out: libraries and programs. By itself, `rt ci` still proves the tests too.
 
 If crates are named, only they and the crates below them are proved, as the sources are when it starts. Nothing is moved
@@ -28,7 +28,7 @@ from typing import Callable, TextIO
 from over_sources import KIT
 
 ROOT = pathlib.Path(__file__).resolve().parent.parent
-ONLY_TESTS = re.compile(r"(?:plan_tests_\w+|plan_samples):")
+ONLY_TESTS = re.compile(r"plan_tests_\w+:")
 PROVED = re.compile(r"rt: (\w+) (?:proved$|is kept: )")
 Proved = Callable[[str, pathlib.Path], None]  # gets a crate that is proved, and the folder of what was made of it
 TESTS = re.compile(r"^#\[cfg\(test\)\]\nmod (\w+);\n", re.MULTILINE)
