@@ -118,10 +118,7 @@ fn source_and_depfile(rt: HostRuntime) -> Result<(), AllocError> {
         Instr::End,
     ];
     let layout = compiled(rt.alloc())?;
-    assert_eq!(rt;
-        is_command_code(rt.alloc(), layout, expected.as_slice()),
-        Ok(true)
-    );
+    assert!(rt; is_command_code(rt.alloc(), layout, expected.as_slice()) == Ok(true));
     Ok(())
 }
 
@@ -197,10 +194,7 @@ fn made_inputs(rt: HostRuntime) -> Result<(), AllocError> {
         Instr::End,
     ];
     let layout = linked(rt.alloc())?;
-    assert_eq!(rt;
-        is_command_code(rt.alloc(), layout, expected.as_slice()),
-        Ok(true)
-    );
+    assert!(rt; is_command_code(rt.alloc(), layout, expected.as_slice()) == Ok(true));
     Ok(())
 }
 
@@ -259,10 +253,7 @@ fn restat_edge(rt: HostRuntime) -> Result<(), AllocError> {
         Instr::End,
     ];
     let layout = command(rt.alloc(), true, false)?;
-    assert_eq!(rt;
-        is_command_code(rt.alloc(), layout, expected.as_slice()),
-        Ok(true)
-    );
+    assert!(rt; is_command_code(rt.alloc(), layout, expected.as_slice()) == Ok(true));
     Ok(())
 }
 
@@ -342,10 +333,7 @@ fn earlier_of_two_baselines(rt: HostRuntime) -> Result<(), AllocError> {
         Instr::End,
     ];
     let layout = joined(rt.alloc())?;
-    assert_eq!(rt;
-        is_command_code(rt.alloc(), layout, expected.as_slice()),
-        Ok(true)
-    );
+    assert!(rt; is_command_code(rt.alloc(), layout, expected.as_slice()) == Ok(true));
     Ok(())
 }
 
@@ -360,10 +348,7 @@ fn phonies(rt: HostRuntime) -> Result<(), AllocError> {
         Instr::Store(1),
         Instr::End,
     ];
-    assert_eq!(rt;
-        is_code(rt.alloc(), &EdgeLayout::Alone(outputs), alone.as_slice()),
-        Ok(true)
-    );
+    assert!(rt; is_code(rt.alloc(), &EdgeLayout::Alone(outputs), alone.as_slice()) == Ok(true));
     let layout = GatherLayout {
         named: items(rt.alloc(), [Input::File(3), Input::Made(0, 1)].as_slice())?,
         order_only: items(rt.alloc(), [4].as_slice())?,
@@ -383,10 +368,7 @@ fn phonies(rt: HostRuntime) -> Result<(), AllocError> {
         Instr::Store(3),
         Instr::End,
     ];
-    assert_eq!(rt;
-        is_code(rt.alloc(), &EdgeLayout::Gather(layout), gathered.as_slice()),
-        Ok(true)
-    );
+    assert!(rt; is_code(rt.alloc(), &EdgeLayout::Gather(layout), gathered.as_slice()) == Ok(true));
     Ok(())
 }
 
@@ -426,10 +408,10 @@ fn len_ordered(alloc: Global, count: u32) -> Result<usize, CompileFault> {
 
 #[test]
 fn places(rt: HostRuntime) {
-    assert_eq!(rt; len_alone(rt.alloc(), 13_107), Ok(65_536));
-    assert_eq!(rt; len_alone(rt.alloc(), 13_108), Err(CompileFault::Limit));
-    assert_eq!(rt; len_ordered(rt.alloc(), 0), Ok(41));
-    assert_eq!(rt; len_ordered(rt.alloc(), 32_747), Ok(65_535));
-    assert_eq!(rt; len_ordered(rt.alloc(), 32_748), Err(CompileFault::Limit));
-    assert_eq!(rt; len_ordered(rt.alloc(), 40_000), Err(CompileFault::Limit));
+    assert!(rt; len_alone(rt.alloc(), 13_107) == Ok(65_536));
+    assert!(rt; len_alone(rt.alloc(), 13_108) == Err(CompileFault::Limit));
+    assert!(rt; len_ordered(rt.alloc(), 0) == Ok(41));
+    assert!(rt; len_ordered(rt.alloc(), 32_747) == Ok(65_535));
+    assert!(rt; len_ordered(rt.alloc(), 32_748) == Err(CompileFault::Limit));
+    assert!(rt; len_ordered(rt.alloc(), 40_000) == Err(CompileFault::Limit));
 }

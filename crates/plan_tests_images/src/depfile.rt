@@ -1,5 +1,6 @@
 //! Calls each public function of plan_depfile on values, as another crate would.
 
+use crate::outcome::value_of;
 use plan_depfile::*;
 use plan_text::Memory;
 use std::alloc::Global;
@@ -67,7 +68,7 @@ fn cut_at_each_byte(rt: HostRuntime) -> Result<(), Fail> {
         b"y".as_slice(),
     ];
     for at in 0..text.len() {
-        let found = has_paths_cut_at(rt.alloc(), text, at, want.as_slice())?;
+        let found = value_of(has_paths_cut_at(rt.alloc(), text, at, want.as_slice()))?;
         assert!(rt; found, "cut at {at}");
     }
     Ok(())
@@ -80,9 +81,9 @@ fn refused_texts(rt: HostRuntime) {
         (b"a: b\n : c".as_slice(), DepFault::NoTarget(6)),
         (b"a: $$$ b".as_slice(), DepFault::LoneDollar(5)),
     ] {
-        assert_eq!(rt; fault_of(rt.alloc(), text), Some(fault));
+        assert!(rt; fault_of(rt.alloc(), text) == Some(fault));
     }
-    assert_eq!(rt; fault_of(rt.alloc(), b"# $\na:b"), None);
+    assert!(rt; fault_of(rt.alloc(), b"# $\na:b") == None);
 }
 
 #[test]
@@ -90,10 +91,10 @@ fn longest_path(rt: HostRuntime) -> Result<(), Fail> {
     let mut text = vec![in rt.alloc(); b'x'; 4_099]?;
     text[1] = b':';
     text[2] = b' ';
-    assert_eq!(rt; fault_of(rt.alloc(), &text), None);
+    assert!(rt; fault_of(rt.alloc(), &text) == None);
     text.push(b'x')?;
     text.push(b'x')?;
-    assert_eq!(rt; fault_of(rt.alloc(), &text), Some(DepFault::PathTooLong(3)));
+    assert!(rt; fault_of(rt.alloc(), &text) == Some(DepFault::PathTooLong(3)));
     Ok(())
 }
 
@@ -101,21 +102,12 @@ fn longest_path(rt: HostRuntime) -> Result<(), Fail> {
 fn longest_depfile(rt: HostRuntime) -> Result<(), Fail> {
     let mut text = vec![in rt.alloc(); b'a'; 16_777_217]?;
     text[16_777_216] = b':';
-    assert_eq!(rt; fault_of(rt.alloc(), &text[1..]), None);
-    assert_eq!(rt;
-        fault_of(rt.alloc(), &text),
-        Some(DepFault::TooLong(16_777_216))
-    );
+    assert!(rt; fault_of(rt.alloc(), &text[1..]) == None);
+    assert!(rt; fault_of(rt.alloc(), &text) == Some(DepFault::TooLong(16_777_216)));
     text[16_777_215] = b'$';
-    assert_eq!(rt;
-        fault_of(rt.alloc(), &text),
-        Some(DepFault::LoneDollar(16_777_215))
-    );
+    assert!(rt; fault_of(rt.alloc(), &text) == Some(DepFault::LoneDollar(16_777_215)));
     text[16_777_216] = b'$';
-    assert_eq!(rt;
-        fault_of(rt.alloc(), &text),
-        Some(DepFault::TooLong(16_777_216))
-    );
+    assert!(rt; fault_of(rt.alloc(), &text) == Some(DepFault::TooLong(16_777_216)));
     Ok(())
 }
 
@@ -143,7 +135,7 @@ fn gathered_copy(alloc: Global, front: &[u8], rest: &[u8]) -> Result<Parsed, Mem
 
 #[test]
 fn gathered_and_copied(rt: HostRuntime) -> Result<(), Fail> {
-    let copy = gathered_copy(rt.alloc(), b"out: a.h \\", b"\n b.h ./a.h")?;
+    let copy = value_of(gathered_copy(rt.alloc(), b"out: a.h \\", b"\n b.h ./a.h"))?;
     assert_eq!(rt; copy.bytes(), b"out: a.h \\\n b.h ./a.h".as_slice());
     let want = [b"a.h".as_slice(), b"b.h".as_slice()];
     assert!(rt; reads_as(&copy, want.as_slice()));
@@ -152,7 +144,7 @@ fn gathered_and_copied(rt: HostRuntime) -> Result<(), Fail> {
 
 #[test]
 fn gathered_behind_a_fault(rt: HostRuntime) -> Result<(), Fail> {
-    let parsed = gathered(rt.alloc(), b"out a.h\n", b"a:b")?;
+    let parsed = value_of(gathered(rt.alloc(), b"out a.h\n", b"a:b"))?;
     assert_eq!(rt; parsed.bytes(), b"out a.h\na:b".as_slice());
     assert!(rt; matches!(parsed.result(), Err(DepFault::NoColon(0))));
     Ok(())
@@ -161,7 +153,7 @@ fn gathered_behind_a_fault(rt: HostRuntime) -> Result<(), Fail> {
 #[test]
 fn parsed_of_bytes(rt: HostRuntime) -> Result<(), Fail> {
     let bytes = Vec::from_slice(rt.alloc(), b"a:b")?;
-    let parsed = Parsed::of(rt.alloc(), bytes)?;
+    let parsed = value_of(Parsed::of(rt.alloc(), bytes))?;
     assert!(rt; reads_as(&parsed, [b"b".as_slice()].as_slice()));
     Ok(())
 }
@@ -235,7 +227,7 @@ const REFUSED_ONCE: &[u8] =
 /// Checks a call whose allocation is refused by `rt try --test --fail-alloc N`: the call returns `Memory`, and nothing
 /// is lost.
 #[test]
-fn reads_after_refused_memory(rt: HostRuntime) -> Result<(), DepFault> {
+fn reads_after_refused_memory(rt: HostRuntime) -> Result<(), Fail> {
     let want = [
         b"a b.h".as_slice(),
         b"$b.h".as_slice(),
@@ -243,7 +235,7 @@ fn reads_after_refused_memory(rt: HostRuntime) -> Result<(), DepFault> {
         b"/usr/include/y.h".as_slice(),
         b"z".as_slice(),
     ];
-    let paths = read_again(rt.alloc(), REFUSED_ONCE)?;
+    let paths = value_of(read_again(rt.alloc(), REFUSED_ONCE))?;
     assert!(rt; has_paths(&paths, want.as_slice()));
     Ok(())
 }
@@ -275,7 +267,7 @@ fn is_gathered(alloc: Global, text: &[u8], paths: usize) -> Result<bool, Memory>
 
 /// Checks the same for a text that is collected, and for a copy of it.
 #[test]
-fn gathers_after_refused_memory(rt: HostRuntime) -> Result<(), Memory> {
-    assert!(rt; is_gathered(rt.alloc(), REFUSED_ONCE, 5)?);
+fn gathers_after_refused_memory(rt: HostRuntime) -> Result<(), Fail> {
+    assert!(rt; value_of(is_gathered(rt.alloc(), REFUSED_ONCE, 5))?);
     Ok(())
 }

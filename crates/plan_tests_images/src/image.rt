@@ -1,5 +1,6 @@
 //! Calls each public function of plan_image on values, as another crate would.
 
+use crate::outcome::value_of;
 use byteorder::{BigEndian, ByteOrder};
 use plan_image::*;
 use plan_text::{Counted, Items, RowList};
@@ -83,17 +84,17 @@ fn is_listed(alloc: Global, bytes: &[u8], text: &[u8]) -> bool {
 
 #[test]
 fn images_come_back(rt: HostRuntime) -> Result<(), Fail> {
-    assert!(rt; comes_back(rt.alloc(), ONE_EDGE.as_slice())?);
-    assert!(rt; comes_back(rt.alloc(), ONE_SHARED.as_slice())?);
-    assert!(rt; comes_back(rt.alloc(), OPEN.as_slice())?);
+    assert!(rt; value_of(comes_back(rt.alloc(), ONE_EDGE.as_slice()))?);
+    assert!(rt; value_of(comes_back(rt.alloc(), ONE_SHARED.as_slice()))?);
+    assert!(rt; value_of(comes_back(rt.alloc(), OPEN.as_slice()))?);
     let mut empty = Vec::new(rt.alloc());
     empty.extend_from_slice(b"PLANIMG\x01")?;
     empty.extend_from_slice([0; 24].as_slice())?;
-    assert!(rt; comes_back(rt.alloc(), &empty)?);
+    assert!(rt; value_of(comes_back(rt.alloc(), &empty))?);
     let mut empty = Vec::new(rt.alloc());
     empty.extend_from_slice(b"PLANIMG\x02")?;
     empty.extend_from_slice([0; 28].as_slice())?;
-    assert!(rt; comes_back(rt.alloc(), &empty)?);
+    assert!(rt; value_of(comes_back(rt.alloc(), &empty))?);
     Ok(())
 }
 
@@ -131,7 +132,7 @@ fn has_code_end(rt: &impl Abort, image: &Image) {
 #[test]
 fn what_an_image_has(rt: HostRuntime) -> Result<(), Fail> {
     for bytes in [ONE_EDGE.as_slice(), ONE_SHARED.as_slice()] {
-        let image = read_image(rt.alloc(), bytes)?;
+        let image = value_of(read_image(rt.alloc(), bytes))?;
         has_one_edge(&rt, &image);
         has_code_end(&rt, &image);
         drop(image);
@@ -144,7 +145,7 @@ fn cut_at_each_length(rt: HostRuntime) {
     for bytes in [ONE_EDGE.as_slice(), ONE_SHARED.as_slice(), OPEN.as_slice()] {
         for at in 0..bytes.len() {
             let fault = fault_of(rt.alloc(), &bytes[..at]);
-            assert_eq!(rt; fault, Some(ImageFault::Truncated(at as u64)));
+            assert!(rt; fault == Some(ImageFault::Truncated(at as u64)));
         }
     }
 }
@@ -156,7 +157,7 @@ fn each_bit_flipped(rt: HostRuntime) -> Result<(), Fail> {
             let mut turned = Vec::from_slice(rt.alloc(), bytes)?;
             turned[bit / 8] ^= 1 << (bit % 8);
             match fault_of(rt.alloc(), &turned) {
-                None => assert!(rt; comes_back(rt.alloc(), &turned)?),
+                None => assert!(rt; value_of(comes_back(rt.alloc(), &turned))?),
                 Some(fault) => assert!(rt; fault.offset().is_some()),
             }
         }
@@ -186,10 +187,10 @@ fn refused_bytes(rt: HostRuntime) -> Result<(), Fail> {
         (69, 0, ImageFault::Trailing(70)),
     ] {
         let found = with_byte(rt.alloc(), ONE_EDGE.as_slice(), at, byte)?;
-        assert_eq!(rt; found, Some(fault));
+        assert!(rt; found == Some(fault));
     }
     let found = with_byte(rt.alloc(), ONE_SHARED.as_slice(), 73, 1)?;
-    assert_eq!(rt; found, Some(ImageFault::BadBody(70)));
+    assert!(rt; found == Some(ImageFault::BadBody(70)));
     Ok(())
 }
 
@@ -203,9 +204,9 @@ fn counted_texts(count: u32) -> [u8; 12] {
 #[test]
 fn refused_counts(rt: HostRuntime) {
     let fault = fault_of(rt.alloc(), &counted_texts(4_194_304));
-    assert_eq!(rt; fault, Some(ImageFault::Truncated(12)));
+    assert!(rt; fault == Some(ImageFault::Truncated(12)));
     let fault = fault_of(rt.alloc(), &counted_texts(4_194_305));
-    assert_eq!(rt; fault, Some(ImageFault::Limit(8)));
+    assert!(rt; fault == Some(ImageFault::Limit(8)));
 }
 
 /// Creates tables of one edge without outputs, with this code and these defaults.
@@ -273,7 +274,7 @@ fn bodies(rt: HostRuntime) -> Result<(), Fail> {
         Instr::Load(9),
         Instr::End,
     ];
-    let (body, numbers) = split(rt.alloc(), code.as_slice())?;
+    let (body, numbers) = value_of(split(rt.alloc(), code.as_slice()))?;
     assert_eq!(rt; numbers.as_slice(), [7, 9].as_slice());
     assert_eq!(rt; body.len(), 4);
     assert_eq!(rt; body.open_count(), 2);
@@ -282,7 +283,7 @@ fn bodies(rt: HostRuntime) -> Result<(), Fail> {
     for (place, instr) in code.iter().enumerate() {
         assert!(rt; body.instr(numbers.as_slice(), place) == Some(*instr));
     }
-    let same = Body::new(rt.alloc(), Vec::from_slice(rt.alloc(), body.as_slice())?)?;
+    let same = value_of(Body::new(rt.alloc(), Vec::from_slice(rt.alloc(), body.as_slice())?))?;
     assert!(rt; same.instr(numbers.as_slice(), 4) == None);
     Ok(())
 }
@@ -337,7 +338,7 @@ fn is_listed_to(image: &Image, left: u32) -> bool {
 
 #[test]
 fn failed_writes(rt: HostRuntime) -> Result<(), Fail> {
-    let image = read_image(rt.alloc(), ONE_EDGE.as_slice())?;
+    let image = value_of(read_image(rt.alloc(), ONE_EDGE.as_slice()))?;
     for left in 0..40 {
         assert!(rt; !is_listed_to(&image, left));
     }
@@ -358,7 +359,7 @@ fn is_printed_to(image: &Image, room: &mut Vec<u8>, left: u32) -> bool {
 #[test]
 fn failed_prints(rt: HostRuntime) -> Result<(), Fail> {
     let mut room = Vec::with_capacity(rt.alloc(), 16)?;
-    let image = read_image(rt.alloc(), ONE_EDGE.as_slice())?;
+    let image = value_of(read_image(rt.alloc(), ONE_EDGE.as_slice()))?;
     for left in 0..5 {
         assert!(rt; !is_printed_to(&image, &mut room, left));
     }
@@ -370,14 +371,14 @@ fn failed_prints(rt: HostRuntime) -> Result<(), Fail> {
 /// Checks that an image is printed as these bytes by a buffer with any capacity up to one above their number.
 fn fills_room(rt: &impl Abort, alloc: Global, image: &Image, bytes: &[u8]) -> Result<(), Fail> {
     for room in 0..bytes.len().saturating_add(2) {
-        assert!(rt; is_printed(alloc, image, room, bytes)?);
+        assert!(rt; value_of(is_printed(alloc, image, room, bytes))?);
     }
     Ok(())
 }
 
 #[test]
 fn room_is_filled(rt: HostRuntime) -> Result<(), Fail> {
-    let image = read_image(rt.alloc(), OPEN.as_slice())?;
+    let image = value_of(read_image(rt.alloc(), OPEN.as_slice()))?;
     let filled = fills_room(&rt, rt.alloc(), &image, OPEN.as_slice());
     drop(image);
     filled
@@ -418,7 +419,7 @@ fn has_ranks(rt: &impl Abort, edges: &Edges) {
 
 #[test]
 fn lent_edges(rt: HostRuntime) -> Result<(), Fail> {
-    let image = read_image(rt.alloc(), OPEN.as_slice())?;
+    let image = value_of(read_image(rt.alloc(), OPEN.as_slice()))?;
     has_ranks(&rt, &image.parts().edges);
     let seen = has_edge_one(&rt, &image.parts().edges);
     drop(image);

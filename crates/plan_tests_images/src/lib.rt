@@ -11,6 +11,8 @@ mod depfile;
 #[cfg(test)]
 mod image;
 #[cfg(test)]
+mod outcome;
+#[cfg(test)]
 mod record;
 #[cfg(test)]
 mod verify;

@@ -156,8 +156,8 @@ fn accepted_code(rt: HostRuntime) {
             11,
         ),
     ] {
-        assert_eq!(rt; verdict(rt.alloc(), code, &[]), Ok(budget));
-        assert_eq!(rt; verdict_on_body(rt.alloc(), code, &[]), Ok(budget));
+        assert!(rt; verdict(rt.alloc(), code, &[]) == Ok(budget));
+        assert!(rt; verdict_on_body(rt.alloc(), code, &[]) == Ok(budget));
     }
 }
 
@@ -216,8 +216,8 @@ fn refused_code(rt: HostRuntime) {
         ([Instr::Zero, Instr::End].as_slice(), Refusal::ValuesLeft, 1),
     ] {
         let fault = VerifyFault::Refused(refusal, 0, place);
-        assert_eq!(rt; verdict(rt.alloc(), code, &[]), Err(fault));
-        assert_eq!(rt; verdict_on_body(rt.alloc(), code, &[]), Err(fault));
+        assert!(rt; verdict(rt.alloc(), code, &[]) == Err(fault));
+        assert!(rt; verdict_on_body(rt.alloc(), code, &[]) == Err(fault));
     }
 }
 
@@ -228,35 +228,32 @@ fn own_slots(rt: HostRuntime) {
         kind: Kind::Stamp,
     }];
     let store = [Instr::Zero, Instr::Store(0), Instr::End];
-    assert_eq!(rt;
-        verdict(rt.alloc(), store.as_slice(), stamp.as_slice()),
-        Ok(4)
-    );
+    assert!(rt; verdict(rt.alloc(), store.as_slice(), stamp.as_slice()) == Ok(4));
     let load = [Instr::Load(0), Instr::Drop, Instr::End];
-    assert_eq!(rt;
-        verdict(rt.alloc(), load.as_slice(), stamp.as_slice()),
-        Err(VerifyFault::Refused(Refusal::UnsetSlot, 0, 0))
+    assert!(rt;
+        verdict(rt.alloc(), load.as_slice(), stamp.as_slice())
+            == Err(VerifyFault::Refused(Refusal::UnsetSlot, 0, 0))
     );
     let end = [Instr::End];
-    assert_eq!(rt;
-        verdict(rt.alloc(), end.as_slice(), stamp.as_slice()),
-        Err(VerifyFault::Refused(Refusal::UnsetSlot, 0, 0))
+    assert!(rt;
+        verdict(rt.alloc(), end.as_slice(), stamp.as_slice())
+            == Err(VerifyFault::Refused(Refusal::UnsetSlot, 0, 0))
     );
     let paths = [Slot {
         owner: 0,
         kind: Kind::Paths,
     }];
-    assert_eq!(rt;
-        verdict(rt.alloc(), end.as_slice(), paths.as_slice()),
-        Err(VerifyFault::Refused(Refusal::PathsInSlot, 0, 0))
+    assert!(rt;
+        verdict(rt.alloc(), end.as_slice(), paths.as_slice())
+            == Err(VerifyFault::Refused(Refusal::PathsInSlot, 0, 0))
     );
     let foreign = [Slot {
         owner: 1,
         kind: Kind::Stamp,
     }];
-    assert_eq!(rt;
-        verdict(rt.alloc(), end.as_slice(), foreign.as_slice()),
-        Err(VerifyFault::Refused(Refusal::BadSlot, 0, 0))
+    assert!(rt;
+        verdict(rt.alloc(), end.as_slice(), foreign.as_slice())
+            == Err(VerifyFault::Refused(Refusal::BadSlot, 0, 0))
     );
 }
 
@@ -264,9 +261,8 @@ fn own_slots(rt: HostRuntime) {
 fn stack_of_65(rt: HostRuntime) -> Result<(), Fail> {
     let mut code = vec![in rt.alloc(); Instr::Zero; 65]?;
     code.push(Instr::End)?;
-    assert_eq!(rt;
-        verdict(rt.alloc(), &code, &[]),
-        Err(VerifyFault::Refused(Refusal::TooDeep, 0, 64))
+    assert!(rt;
+        verdict(rt.alloc(), &code, &[]) == Err(VerifyFault::Refused(Refusal::TooDeep, 0, 64))
     );
     Ok(())
 }
@@ -287,18 +283,15 @@ fn verdict_on_two(alloc: Global, rank: u32, waits: &[u32]) -> Result<u64, Verify
 
 #[test]
 fn slots_of_waits(rt: HostRuntime) {
-    assert_eq!(rt; verdict_on_two(rt.alloc(), 1, &[0]), Ok(8));
-    assert_eq!(rt;
-        verdict_on_two(rt.alloc(), 1, &[]),
-        Err(VerifyFault::Refused(Refusal::BadSlot, 1, 0))
+    assert!(rt; verdict_on_two(rt.alloc(), 1, &[0]) == Ok(8));
+    assert!(rt;
+        verdict_on_two(rt.alloc(), 1, &[]) == Err(VerifyFault::Refused(Refusal::BadSlot, 1, 0))
     );
-    assert_eq!(rt;
-        verdict_on_two(rt.alloc(), 0, &[0]),
-        Err(VerifyFault::Refused(Refusal::BadWait, 1, 0))
+    assert!(rt;
+        verdict_on_two(rt.alloc(), 0, &[0]) == Err(VerifyFault::Refused(Refusal::BadWait, 1, 0))
     );
-    assert_eq!(rt;
-        verdict_on_two(rt.alloc(), 1, &[2]),
-        Err(VerifyFault::Refused(Refusal::BadWait, 1, 0))
+    assert!(rt;
+        verdict_on_two(rt.alloc(), 1, &[2]) == Err(VerifyFault::Refused(Refusal::BadWait, 1, 0))
     );
 }
 
@@ -333,17 +326,15 @@ fn verdict_without_files(alloc: Global) -> Result<u64, VerifyFault> {
 
 #[test]
 fn tables_outside(rt: HostRuntime) {
-    assert_eq!(rt;
-        verdict_with_defaults(rt.alloc(), [1].as_slice()),
-        Err(VerifyFault::Refused(Refusal::BadWait, 0, 0))
+    assert!(rt;
+        verdict_with_defaults(rt.alloc(), [1].as_slice())
+            == Err(VerifyFault::Refused(Refusal::BadWait, 0, 0))
     );
-    assert_eq!(rt;
-        verdict_without_texts(rt.alloc()),
-        Err(VerifyFault::Refused(Refusal::BadText, 0, 0))
+    assert!(rt;
+        verdict_without_texts(rt.alloc()) == Err(VerifyFault::Refused(Refusal::BadText, 0, 0))
     );
-    assert_eq!(rt;
-        verdict_without_files(rt.alloc()),
-        Err(VerifyFault::Refused(Refusal::BadFile, 0, 0))
+    assert!(rt;
+        verdict_without_files(rt.alloc()) == Err(VerifyFault::Refused(Refusal::BadFile, 0, 0))
     );
 }
 
@@ -393,12 +384,9 @@ fn parts_of_pool(alloc: Global) -> Result<Parts, AllocError> {
 #[test]
 fn pool_of_one(rt: HostRuntime) -> Result<(), Fail> {
     let parts = parts_of_pool(rt.alloc())?;
-    assert_eq!(rt; verdict_on(rt.alloc(), parts), Ok(21));
+    assert!(rt; verdict_on(rt.alloc(), parts) == Ok(21));
     let parts = pooled_parts(rt.alloc())?;
-    assert_eq!(rt;
-        verdict_on(rt.alloc(), parts),
-        Err(VerifyFault::Refused(Refusal::BadPool, 0, 0))
-    );
+    assert!(rt; verdict_on(rt.alloc(), parts) == Err(VerifyFault::Refused(Refusal::BadPool, 0, 0)));
     Ok(())
 }
 

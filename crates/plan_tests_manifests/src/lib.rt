@@ -7,6 +7,8 @@ mod graph;
 #[cfg(test)]
 mod options;
 #[cfg(test)]
+mod outcome;
+#[cfg(test)]
 mod parse;
 #[cfg(test)]
 mod scope;

@@ -1,5 +1,6 @@
 //! Tests each public function on command lines that were also given to ninja 1.11.
 
+use crate::outcome::value_of;
 use plan_options::*;
 use std::test::Fail;
 
@@ -19,26 +20,31 @@ fn are_texts(found: &[&[u8]], wanted: &[&[u8]]) -> bool {
 #[test]
 fn line_with_options(rt: HostRuntime) -> Result<(), Fail> {
     let words: [&[u8]; 8] = [b"a", b"-vj3", b"-C", b"out", b"--qui", b"-k", b"-1", b"b"];
-    let line = CommandLine::read(rt.alloc(), &words)?;
+    let line = value_of(CommandLine::read(rt.alloc(), &words))?;
     assert_eq!(rt; line.arguments().len(), 7);
     assert!(rt; line.stop().is_none());
     assert!(rt; line.value(Setting::Folder) == Some(b"out".as_slice()));
     assert!(rt; line.value(Setting::Manifest).is_none());
-    assert_eq!(rt; line.verbosity(), Some(Flag::Quiet));
+    assert!(rt; line.verbosity() == Some(Flag::Quiet));
     assert_eq!(rt; line.jobs(), Some(3));
     assert_eq!(rt; line.failures(), 0);
-    assert!(rt; are_texts(&line.targets(rt.alloc())?, &[b"a", b"b"]));
+    assert!(rt; are_texts(&value_of(line.targets(rt.alloc()))?, &[b"a", b"b"]));
     Ok(())
 }
 
 #[test]
 fn line_with_a_tool(rt: HostRuntime) -> Result<(), Fail> {
     let words: [&[u8]; 5] = [b"-f", b"x.ninja", b"-tclean", b"-g", b"--version"];
-    let line = CommandLine::read(rt.alloc(), &words)?;
+    let line = value_of(CommandLine::read(rt.alloc(), &words))?;
     assert!(rt; line.stop().is_none());
     assert!(rt; line.value(Setting::Tool) == Some(b"clean".as_slice()));
-    assert!(rt; are_texts(&line.tool_words(rt.alloc())?, &[b"-g", b"--version"]));
-    assert!(rt; line.targets(rt.alloc())?.is_empty());
+    assert!(rt;
+        are_texts(
+            &value_of(line.tool_words(rt.alloc()))?,
+            &[b"-g", b"--version"]
+        )
+    );
+    assert!(rt; value_of(line.targets(rt.alloc()))?.is_empty());
     Ok(())
 }
 
@@ -57,20 +63,20 @@ fn lines_that_end(rt: HostRuntime) -> Result<(), Fail> {
         (b"-wlist".as_slice(), Stop::WarningList),
         (b"-wnosuch".as_slice(), Stop::UnknownWarning),
     ] {
-        let line = CommandLine::read(rt.alloc(), &[b"a", word])?;
+        let line = value_of(CommandLine::read(rt.alloc(), &[b"a", word]))?;
         let found = match line.stop() {
             Some(argument) => stop_of(argument),
             None => None,
         };
-        assert_eq!(rt; found, Some(stop));
+        assert!(rt; found == Some(stop));
     }
     Ok(())
 }
 
 #[test]
 fn names_of_flags(rt: HostRuntime) -> Result<(), Fail> {
-    let flags = flags_named(rt.alloc(), b"ve")?;
-    assert_eq!(rt; flags.as_slice(), [Flag::Version, Flag::Verbose].as_slice());
+    let flags = value_of(flags_named(rt.alloc(), b"ve"))?;
+    assert!(rt; flags.as_slice() == [Flag::Version, Flag::Verbose].as_slice());
     assert!(rt; name_of(Flag::Quiet) == b"quiet".as_slice());
     assert!(rt; long_name_in(b"--ver=1") == b"ver".as_slice());
     assert_eq!(rt; Setting::Tool.letter(), b't');
@@ -90,7 +96,7 @@ fn numbers(rt: HostRuntime) {
         ),
         (b"8x".as_slice(), None),
     ] {
-        assert_eq!(rt; integer_in(text, 64), wanted);
+        assert!(rt; integer_in(text, 64) == wanted);
     }
 }
 
@@ -98,20 +104,25 @@ fn numbers(rt: HostRuntime) {
 fn words_of_tools(rt: HostRuntime) -> Result<(), Fail> {
     let words: [&[u8]; 6] = [b"-gr", b"a", b"-", b"-x", b"--", b"-g"];
     assert_eq!(rt;
-        option_letters(rt.alloc(), &words)?.as_slice(),
+        value_of(option_letters(rt.alloc(), &words))?.as_slice(),
         b"grx".as_slice()
     );
-    assert!(rt; are_texts(&operands(rt.alloc(), &words)?, &[b"a", b"-", b"-g"]));
-    assert!(rt; CommandLine::read(rt.alloc(), &[b"-vn"])?.is_dry_run());
-    assert!(rt; !CommandLine::read(rt.alloc(), &[b"-t", b"clean", b"-n"])?.is_dry_run());
+    assert!(rt;
+        are_texts(
+            &value_of(operands(rt.alloc(), &words))?,
+            &[b"a", b"-", b"-g"]
+        )
+    );
+    assert!(rt; value_of(CommandLine::read(rt.alloc(), &[b"-vn"]))?.is_dry_run());
+    assert!(rt; !value_of(CommandLine::read(rt.alloc(), &[b"-t", b"clean", b"-n"]))?.is_dry_run());
     Ok(())
 }
 
 #[test]
 fn explained(rt: HostRuntime) -> Result<(), Fail> {
     let words: [&[u8]; 4] = [b"-dexplain", b"a", b"-d", b"stats"];
-    assert!(rt; CommandLine::read(rt.alloc(), &words)?.is_explained());
-    assert!(rt; !CommandLine::read(rt.alloc(), &[b"-d", b"stats"])?.is_explained());
-    assert!(rt; !CommandLine::read(rt.alloc(), &[b"-w", b"explain"])?.is_explained());
+    assert!(rt; value_of(CommandLine::read(rt.alloc(), &words))?.is_explained());
+    assert!(rt; !value_of(CommandLine::read(rt.alloc(), &[b"-d", b"stats"]))?.is_explained());
+    assert!(rt; !value_of(CommandLine::read(rt.alloc(), &[b"-w", b"explain"]))?.is_explained());
     Ok(())
 }

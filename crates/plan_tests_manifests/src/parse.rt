@@ -1,6 +1,7 @@
 //! Parses manifests, as another crate would: the examples of the manual and of ninja's own tests, and refusals of each
 //! kind.
 
+use crate::outcome::value_of;
 use plan_parse::*;
 use plan_text::{Items, Piece, PieceList, TextFault};
 use std::alloc::{AllocError, Global};
@@ -133,7 +134,7 @@ fn refuse(alloc: Global, text: &[u8]) -> Option<ParseFault> {
 fn demo_rule(rt: HostRuntime) -> Result<(), Fail> {
     let text =
         b"rule demo\n  command = echo \"this is a demo of $foo\"\nbuild out: demo\n  foo = bar\n";
-    let file = parse(rt.alloc(), text.as_slice())?;
+    let file = value_of(parse(rt.alloc(), text.as_slice()))?;
     let found = &file.statements;
     assert_eq!(rt; found.len(), 2);
     assert_eq!(rt; found[0].offset(&file.lists), 0);
@@ -152,7 +153,7 @@ fn demo_rule(rt: HostRuntime) -> Result<(), Fail> {
 #[test]
 fn demo_build(rt: HostRuntime) -> Result<(), Fail> {
     let text = b"build out: demo\n  foo = bar\n  dir =  a\tb $foo$ c\n  none =\n".as_slice();
-    let file = parse(rt.alloc(), text)?;
+    let file = value_of(parse(rt.alloc(), text))?;
     let found = &file.statements;
     assert_eq!(rt; found.len(), 1);
     match &found[0] {
@@ -174,7 +175,7 @@ fn demo_build(rt: HostRuntime) -> Result<(), Fail> {
 fn quoted_paths(rt: HostRuntime) -> Result<(), Fail> {
     let text =
         b"spaced = foo bar\n\n# a comment\nbuild $spaced/baz other$ file: touch in$:1 $\n    in2\n".as_slice();
-    let file = parse(rt.alloc(), text)?;
+    let file = value_of(parse(rt.alloc(), text))?;
     let found = &file.statements;
     assert_eq!(rt; found.len(), 2);
     match (&found[0], &found[1]) {
@@ -194,7 +195,7 @@ fn quoted_paths(rt: HostRuntime) -> Result<(), Fail> {
 #[test]
 fn five_lists(rt: HostRuntime) -> Result<(), Fail> {
     let text = b"build foo.o $dir/foo.d | foo.su: cc foo.c | foo.h bar.h || generated\n".as_slice();
-    let file = parse(rt.alloc(), text)?;
+    let file = value_of(parse(rt.alloc(), text))?;
     let found = &file.statements;
     assert_eq!(rt; found.len(), 1);
     match &found[0] {
@@ -217,7 +218,7 @@ fn five_lists(rt: HostRuntime) -> Result<(), Fail> {
 fn two_build_lines(rt: HostRuntime) -> Result<(), Fail> {
     let text =
         b"build a | b: one c\n  x = 1\n  y = 2\nz = 3\nbuild d: two e || f\n  x = $z\n".as_slice();
-    let file = parse(rt.alloc(), text)?;
+    let file = value_of(parse(rt.alloc(), text))?;
     let found = &file.statements;
     assert_eq!(rt; found.len(), 3);
     assert_eq!(rt; found[2].offset(&file.lists), 41);
@@ -270,17 +271,17 @@ fn refused_parts(rt: HostRuntime) {
     ] {
         match part_at(path, 7) {
             Ok(_) => assert!(rt; false, "a fault"),
-            Err(found) => assert_eq!(rt; found, fault),
+            Err(found) => assert!(rt; found == fault),
         }
     }
 }
 
 #[test]
 fn pool(rt: HostRuntime) -> Result<(), Fail> {
-    let file = parse(
+    let file = value_of(parse(
         rt.alloc(),
         b"# one at a time\npool link_pool\n  depth = 4\n",
-    )?;
+    ))?;
     let found = &file.statements;
     assert_eq!(rt; found.len(), 1);
     assert_eq!(rt; found[0].offset(&file.lists), 16);
@@ -296,7 +297,7 @@ fn pool(rt: HostRuntime) -> Result<(), Fail> {
 
 #[test]
 fn defaults(rt: HostRuntime) -> Result<(), Fail> {
-    let file = parse(rt.alloc(), b"third = c\ndefault a b\ndefault $third\n")?;
+    let file = value_of(parse(rt.alloc(), b"third = c\ndefault a b\ndefault $third\n"))?;
     let found = &file.statements;
     assert_eq!(rt; found.len(), 3);
     match (directive(&found[1]), directive(&found[2])) {
@@ -311,10 +312,10 @@ fn defaults(rt: HostRuntime) -> Result<(), Fail> {
 
 #[test]
 fn other_files(rt: HostRuntime) -> Result<(), Fail> {
-    let file = parse(
+    let file = value_of(parse(
         rt.alloc(),
         b"include include.ninja\nsubninja $dir/test$ 1.ninja\n",
-    )?;
+    ))?;
     let found = &file.statements;
     assert_eq!(rt; found.len(), 2);
     match (directive(&found[0]), directive(&found[1])) {
@@ -333,7 +334,7 @@ fn rule_variables(rt: HostRuntime) -> Result<(), Fail> {
         b"rule cat\n  command = a\n  depfile = b\n  deps = c\n  msvc_deps_prefix = d\n  description = e\n  dyndep = f\n  generator = g\n  in = h\n  in_newline = i\n  out = j\n  restat = k\n  rspfile = l\n  rspfile_content = m\n  pool = n\n";
     let want =
         b"command=a;depfile=b;deps=c;msvc_deps_prefix=d;description=e;dyndep=f;generator=g;in=h;in_newline=i;out=j;restat=k;rspfile=l;rspfile_content=m;pool=n;";
-    let file = parse(rt.alloc(), text.as_slice())?;
+    let file = value_of(parse(rt.alloc(), text.as_slice()))?;
     let found = &file.statements;
     assert_eq!(rt; found.len(), 1);
     match directive(&found[0]) {
@@ -362,7 +363,7 @@ fn refused_lines(rt: HostRuntime) {
         (b"x y".as_slice(), ParseFault::ExpectedEquals(2)),
         (b"= y".as_slice(), ParseFault::ExpectedName(0)),
     ] {
-        assert_eq!(rt; refuse(rt.alloc(), text), Some(fault));
+        assert!(rt; refuse(rt.alloc(), text) == Some(fault));
     }
 }
 
@@ -400,7 +401,7 @@ fn refused_blocks(rt: HostRuntime) {
             ParseFault::UnexpectedIndent(12),
         ),
     ] {
-        assert_eq!(rt; refuse(rt.alloc(), text), Some(fault));
+        assert!(rt; refuse(rt.alloc(), text) == Some(fault));
     }
 }
 
@@ -411,7 +412,7 @@ fn refused_bytes(rt: HostRuntime) {
         (b"rule r\n\tcommand = a".as_slice(), TextFault::TabBlank(7)),
         (b"include a\0".as_slice(), TextFault::NulByte(9)),
     ] {
-        assert_eq!(rt; refuse(rt.alloc(), text), Some(ParseFault::Text(fault)));
+        assert!(rt; refuse(rt.alloc(), text) == Some(ParseFault::Text(fault)));
     }
 }
 

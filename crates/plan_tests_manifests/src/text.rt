@@ -1,5 +1,6 @@
 //! Calls each public function of plan_text on values, as another crate would.
 
+use crate::outcome::value_of;
 use plan_text::*;
 use std::alloc::Global;
 use std::io::{self, Write};
@@ -14,7 +15,7 @@ fn canonical_paths(rt: HostRuntime) -> Result<(), Fail> {
         (b"a/..".as_slice(), b".".as_slice()),
         (b"out/obj/../foo.o".as_slice(), b"out/foo.o".as_slice()),
     ] {
-        let found = canonical(rt.alloc(), path)?;
+        let found = value_of(canonical(rt.alloc(), path))?;
         assert_eq!(rt; found.as_slice(), want);
     }
     assert!(rt; matches!(canonical(rt.alloc(), b""), Err(TextFault::EmptyPath)));
@@ -40,14 +41,14 @@ fn has_reference(list: &PieceList, at: usize, name: &[u8]) -> bool {
 #[test]
 fn pieces_of_text(rt: HostRuntime) -> Result<(), Fail> {
     let text = b"gcc\t$cflags-x -o ${out.d}$$ $\n    a$:b";
-    let value = pieces(rt.alloc(), text.as_slice(), Mode::Value)?;
+    let value = value_of(pieces(rt.alloc(), text.as_slice(), Mode::Value))?;
     assert_eq!(rt; value.as_slice().len(), 5);
     assert!(rt; has_literal(&value, 0, b"gcc\t"));
     assert!(rt; has_reference(&value, 1, b"cflags-x"));
     assert!(rt; has_literal(&value, 2, b" -o "));
     assert!(rt; has_reference(&value, 3, b"out.d"));
     assert!(rt; has_literal(&value, 4, b"$ a:b"));
-    let path = pieces(rt.alloc(), b"$dir/other$ file.c", Mode::Path)?;
+    let path = value_of(pieces(rt.alloc(), b"$dir/other$ file.c", Mode::Path))?;
     assert_eq!(rt; path.as_slice().len(), 2);
     assert!(rt; has_reference(&path, 0, b"dir"));
     assert!(rt; has_literal(&path, 1, b"/other file.c"));
@@ -57,17 +58,29 @@ fn pieces_of_text(rt: HostRuntime) -> Result<(), Fail> {
 #[test]
 fn one_piece(rt: HostRuntime) -> Result<(), Fail> {
     let text = b"a/rather/long$ path/that/goes/on/behind/its$:escapes.c";
-    let path = pieces(rt.alloc(), text.as_slice(), Mode::Path)?;
+    let path = value_of(pieces(rt.alloc(), text.as_slice(), Mode::Path))?;
     let want = b"a/rather/long path/that/goes/on/behind/its:escapes.c";
     assert_eq!(rt; path.as_slice().len(), 1);
     assert!(rt; has_literal(&path, 0, want.as_slice()));
-    assert_eq!(rt; pieces(rt.alloc(), b"$x", Mode::Path)?.as_slice().len(), 1);
-    assert_eq!(rt; pieces(rt.alloc(), b"", Mode::Value)?.as_slice().len(), 0);
     assert_eq!(rt;
-        pieces(rt.alloc(), b"$\n  ", Mode::Value)?.as_slice().len(),
+        value_of(pieces(rt.alloc(), b"$x", Mode::Path))?
+            .as_slice()
+            .len(),
+        1
+    );
+    assert_eq!(rt;
+        value_of(pieces(rt.alloc(), b"", Mode::Value))?
+            .as_slice()
+            .len(),
         0
     );
-    let tab = pieces_at(rt.alloc(), b"a\tb", 40, Mode::Value)?;
+    assert_eq!(rt;
+        value_of(pieces(rt.alloc(), b"$\n  ", Mode::Value))?
+            .as_slice()
+            .len(),
+        0
+    );
+    let tab = value_of(pieces_at(rt.alloc(), b"a\tb", 40, Mode::Value))?;
     assert!(rt; has_literal(&tab, 0, b"a\tb"));
     Ok(())
 }
@@ -84,7 +97,7 @@ fn refused_pieces(rt: HostRuntime) {
             Ok(_) => None,
             Err(found) => Some(found),
         };
-        assert_eq!(rt; refused, Some(fault));
+        assert!(rt; refused == Some(fault));
     }
 }
 
@@ -114,7 +127,7 @@ fn short_and_long_texts(rt: HostRuntime) -> Result<(), Fail> {
 
 #[test]
 fn logical_lines(rt: HostRuntime) -> Result<(), Fail> {
-    let found = lines(rt.alloc(), b"x = $\n  1\n\n# c $\n  y = 2")?;
+    let found = value_of(lines(rt.alloc(), b"x = $\n  1\n\n# c $\n  y = 2"))?;
     let first = Line {
         indent: 0,
         start: 0,
@@ -125,7 +138,7 @@ fn logical_lines(rt: HostRuntime) -> Result<(), Fail> {
         start: 19,
         end: 24,
     };
-    assert_eq!(rt; found.as_slice(), [first, second].as_slice());
+    assert!(rt; found.as_slice() == [first, second].as_slice());
     let fault = lines(rt.alloc(), b"a\n \tb");
     assert!(rt; matches!(fault, Err(TextFault::TabBlank(3))));
     Ok(())
@@ -142,7 +155,7 @@ fn refused_lines(rt: HostRuntime) -> Result<(), Fail> {
     let long = vec![in rt.alloc(); b'#'; 16_777_217]?;
     let fault = lines(rt.alloc(), &long);
     assert!(rt; matches!(fault, Err(TextFault::SourceTooLong(16_777_216))));
-    assert!(rt; lines(rt.alloc(), &long[1..])?.is_empty());
+    assert!(rt; value_of(lines(rt.alloc(), &long[1..]))?.is_empty());
     Ok(())
 }
 
@@ -158,7 +171,7 @@ fn refused_texts(rt: HostRuntime) {
             Ok(_) => None,
             Err(found) => Some(found),
         };
-        assert_eq!(rt; refused, Some(fault));
+        assert!(rt; refused == Some(fault));
     }
 }
 
@@ -196,7 +209,7 @@ fn two_bytes(alloc: Global) -> Result<Vec<u8>, Memory> {
 fn want_of_memory(rt: HostRuntime) {
     match two_bytes(rt.alloc()) {
         Ok(bytes) => assert_eq!(rt; bytes.as_slice(), b"ab".as_slice()),
-        Err(fault) => assert_eq!(rt; fault, Memory),
+        Err(fault) => assert!(rt; fault == Memory),
     }
 }
 

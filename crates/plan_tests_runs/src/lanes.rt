@@ -407,9 +407,8 @@ fn all_at_once(rt: HostRuntime) -> Result<(), Fail> {
     for n in [2u8, 8, 64] {
         for looks in [0u32, 3] {
             let events = (7 + 3 * looks as usize) * usize::from(n);
-            assert_eq!(rt;
-                gated(&rt, rt.alloc(), rt.clone()?, n, looks),
-                Ok((0, events, usize::from(n)))
+            assert!(rt;
+                gated(&rt, rt.alloc(), rt.clone()?, n, looks) == Ok((0, events, usize::from(n)))
             );
         }
     }
@@ -445,10 +444,7 @@ fn gated_uneven<R: Threads + Wait + Sync, C: Clock + Send + Sync + Drop>(
 #[test]
 fn uneven(rt: HostRuntime) -> Result<(), Fail> {
     for looks in [0u32, 1] {
-        assert_eq!(rt;
-            gated_uneven(&rt, rt.alloc(), rt.clone()?, looks),
-            Ok((0, 17, 2))
-        );
+        assert!(rt; gated_uneven(&rt, rt.alloc(), rt.clone()?, looks) == Ok((0, 17, 2)));
     }
     Ok(())
 }
@@ -464,7 +460,7 @@ fn asks_once<R: Threads + Wait + Sync + Abort>(
         let world = Counted::new(u64::MAX, false);
         let events = (7 + 3 * looks as usize) * 300;
         let found = came_out(rt, alloc, image, jobs, &world);
-        assert_eq!(rt; found, Ok((0, events, 300)));
+        assert!(rt; found == Ok((0, events, 300)));
         let calls = world.calls.load(Ordering::SeqCst);
         assert_eq!(rt; calls, 300 * (u64::from(looks) + 1));
         assert!(rt; world.crowd.load(Ordering::SeqCst) < u64::from(jobs));
@@ -514,7 +510,7 @@ fn same_verdict_by_threads(rt: HostRuntime) -> Result<(), Fail> {
             } else {
                 Ok(2_100)
             };
-            assert_eq!(rt; verdict_by(&rt, rt.alloc(), threads, bad), Ok(wanted));
+            assert!(rt; verdict_by(&rt, rt.alloc(), threads, bad) == Ok(wanted));
         }
     }
     Ok(())

@@ -9,6 +9,8 @@ mod lanes;
 #[cfg(test)]
 mod machine;
 #[cfg(test)]
+mod outcome;
+#[cfg(test)]
 mod samples;
 #[cfg(test)]
 mod stamps;

@@ -54,15 +54,9 @@ fn pool_of_one(rt: HostRuntime) {
         Plain::Step(0),
         Plain::Step(1),
     ];
-    assert_eq!(rt;
-        ran(alloc, &image, 4, 0, &all),
-        Ok((9, Some(Mark::Took(1)), false))
-    );
+    assert!(rt; ran(alloc, &image, 4, 0, &all) == Ok((9, Some(Mark::Took(1)), false)));
     let early = [all[0], all[1], all[2], all[3], all[8]];
-    assert_eq!(rt;
-        ran(alloc, &image, 4, 0, &early),
-        Err((4, Refused::NotEnabled))
-    );
+    assert!(rt; ran(alloc, &image, 4, 0, &early) == Err((4, Refused::NotEnabled)));
 }
 
 /// Checks that a stamp is refused as the reply to an edge that asked to run its command.
@@ -78,10 +72,7 @@ fn wrong_replies(rt: HostRuntime) {
         Plain::Step(0),
         Plain::Stamp(0, 1),
     ];
-    assert_eq!(rt;
-        ran(rt.alloc(), &image, 4, 0, &events),
-        Err((4, Refused::NotEnabled))
-    );
+    assert!(rt; ran(rt.alloc(), &image, 4, 0, &events) == Err((4, Refused::NotEnabled)));
 }
 
 /// Edges that wait for a failed or a skipped edge can be skipped. Another edge can be stopped after the first failure
@@ -101,14 +92,8 @@ fn failures_and_skips(rt: HostRuntime) {
         Plain::Skip(2, 1),
         Plain::Stop(3),
     ];
-    assert_eq!(rt;
-        ran(rt.alloc(), &image, 1, 0, &all),
-        Err((7, Refused::NotEnabled))
-    );
-    assert_eq!(rt;
-        ran(rt.alloc(), &image, 1, 1, &all),
-        Ok((8, Some(Mark::Stopped(3)), true))
-    );
+    assert!(rt; ran(rt.alloc(), &image, 1, 0, &all) == Err((7, Refused::NotEnabled)));
+    assert!(rt; ran(rt.alloc(), &image, 1, 1, &all) == Ok((8, Some(Mark::Stopped(3)), true)));
 }
 
 /// The code of an edge that sweeps the paths of its depfile.
@@ -192,10 +177,7 @@ fn malformed_depfile(rt: HostRuntime) {
     };
     let failed = Outcome::Failed(Cause::DepfileMalformed(90, 0));
     assert_eq!(rt; image.budget(), 11);
-    assert_eq!(rt;
-        comes_to(rt.alloc(), &image, b"out a.h"),
-        Ok((9, Some(failed)))
-    );
+    assert!(rt; comes_to(rt.alloc(), &image, b"out a.h") == Ok((9, Some(failed))));
 }
 
 #[test]
@@ -205,10 +187,10 @@ fn sweep(rt: HostRuntime) {
     };
     let clean = Some(Outcome::Clean);
     assert_eq!(rt; image.budget(), 11);
-    assert_eq!(rt; comes_to(rt.alloc(), &image, b"a:b"), Ok((13, clean)));
-    assert_eq!(rt; comes_to(rt.alloc(), &image, b""), Ok((11, clean)));
+    assert!(rt; comes_to(rt.alloc(), &image, b"a:b") == Ok((13, clean)));
+    assert!(rt; comes_to(rt.alloc(), &image, b"") == Ok((11, clean)));
     let words = b"out: a.h \\\n b.h ./a.h";
-    assert_eq!(rt; comes_to(rt.alloc(), &image, words), Ok((15, clean)));
+    assert!(rt; comes_to(rt.alloc(), &image, words) == Ok((15, clean)));
 }
 
 /// Checks whether a depfile still has its bytes, and this many paths, in the form that a journal keeps. Returns false
@@ -228,12 +210,9 @@ fn is_journaled(alloc: Global, bytes: &[u8], paths: u32) -> Result<bool, Refused
 
 #[test]
 fn journaled_depfile(rt: HostRuntime) {
-    assert_eq!(rt;
-        is_journaled(rt.alloc(), b"out: a.h b.h ./a.h", 2),
-        Ok(true)
-    );
-    assert_eq!(rt; is_journaled(rt.alloc(), b"", 0), Ok(true));
-    assert_eq!(rt; is_journaled(rt.alloc(), b"out a.h", 0), Ok(false));
+    assert!(rt; is_journaled(rt.alloc(), b"out: a.h b.h ./a.h", 2) == Ok(true));
+    assert!(rt; is_journaled(rt.alloc(), b"", 0) == Ok(true));
+    assert!(rt; is_journaled(rt.alloc(), b"out a.h", 0) == Ok(false));
 }
 
 /// Applies the events that are picked, at most 20, and returns their number.
@@ -279,7 +258,7 @@ fn full_pool(rt: HostRuntime) {
     let Some(image) = three(rt.alloc()) else {
         panic!(&rt; "no image");
     };
-    assert_eq!(rt; picked(rt.alloc(), &image, 4), Ok((6, 1, 3)));
+    assert!(rt; picked(rt.alloc(), &image, 4) == Ok((6, 1, 3)));
 }
 
 /// Checks whether the step of edge 0 asks anything before the edge starts, and whether it asks for the stamp of `a`
@@ -315,7 +294,7 @@ fn questions_ahead(rt: HostRuntime) {
     let Some(image) = alone(rt.alloc(), &[Instr::Stat(0), Instr::Drop, Instr::End]) else {
         panic!(&rt; "no image");
     };
-    assert_eq!(rt; opened_questions(rt.alloc(), &image), Ok((false, true)));
+    assert!(rt; opened_questions(rt.alloc(), &image) == Ok((false, true)));
 }
 
 /// Starts edge 0, which asks for two stamps. Makes four local runs of it: one after the start, one after each of two
@@ -367,7 +346,7 @@ fn edge_makes_local_runs(rt: HostRuntime) {
         panic!(&rt; "no image");
     };
     let gone = [(0, true), (0, true), (2, false), (0, false)];
-    assert_eq!(rt; opened_local_runs(rt.alloc(), &image), Ok(gone));
+    assert!(rt; opened_local_runs(rt.alloc(), &image) == Ok(gone));
     let counted = LocalRun {
         steps: 2,
         asked: true,
@@ -442,22 +421,10 @@ fn edges_that_the_targets_need(rt: HostRuntime) {
         panic!(&rt; "no image");
     };
     let unwanted = Some(Outcome::NotWanted);
-    assert_eq!(rt;
-        opened(rt.alloc(), &image, &[]),
-        Ok(([None, None, unwanted, None], false))
-    );
-    assert_eq!(rt;
-        opened(rt.alloc(), &image, &[2]),
-        Ok(([unwanted, unwanted, None, None], false))
-    );
-    assert_eq!(rt;
-        opened(rt.alloc(), &image, &[2, 0]),
-        Ok(([None, unwanted, None, None], false))
-    );
-    assert_eq!(rt;
-        opened(rt.alloc(), &image, &[0, 3]),
-        Err(Refused::BadTarget)
-    );
+    assert!(rt; opened(rt.alloc(), &image, &[]) == Ok(([None, None, unwanted, None], false)));
+    assert!(rt; opened(rt.alloc(), &image, &[2]) == Ok(([unwanted, unwanted, None, None], false)));
+    assert!(rt; opened(rt.alloc(), &image, &[2, 0]) == Ok(([None, unwanted, None, None], false)));
+    assert!(rt; opened(rt.alloc(), &image, &[0, 3]) == Err(Refused::BadTarget));
 }
 
 /// If nothing is built by default, a run without targets has ended when it opens. A target that isn't an edge is
@@ -468,11 +435,8 @@ fn nothing_wanted(rt: HostRuntime) {
         panic!(&rt; "no image");
     };
     let unwanted = Some(Outcome::NotWanted);
-    assert_eq!(rt;
-        opened(rt.alloc(), &image, &[]),
-        Ok(([unwanted, None, None, None], true))
-    );
-    assert_eq!(rt; opened(rt.alloc(), &image, &[1]), Err(Refused::BadTarget));
+    assert!(rt; opened(rt.alloc(), &image, &[]) == Ok(([unwanted, None, None, None], true)));
+    assert!(rt; opened(rt.alloc(), &image, &[1]) == Err(Refused::BadTarget));
 }
 
 /// Starts edge 0, which sweeps a depfile of the paths `b`, `c` and `d`, and offers it three rows of stamps: from the
@@ -547,5 +511,5 @@ fn rows_of_a_sweep(rt: HostRuntime) {
         asked: true,
     };
     let told = ([0, 2], [0, 2, 0], read);
-    assert_eq!(rt; opened_sweeps(rt.alloc(), &image), Ok(told));
+    assert!(rt; opened_sweeps(rt.alloc(), &image) == Ok(told));
 }

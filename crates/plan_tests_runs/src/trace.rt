@@ -1,5 +1,6 @@
 //! Tests `read_trace` and `write_trace` on texts made by hand.
 
+use crate::outcome::value_of;
 use plan_machine::{Event, Options, Reply};
 use plan_text::{Counted, Items};
 use plan_trace::*;
@@ -76,7 +77,7 @@ fn bad_lines(rt: HostRuntime) {
 #[test]
 fn what_lines_say(rt: HostRuntime) -> Result<(), Fail> {
     let text = b"plan-trace 1 j 4 k 7\ntarget 9\nskip 3 1\nreply 2 entry 5 6361 612e68\n";
-    let trace = read_trace(rt.alloc(), text.as_slice())?;
+    let trace = value_of(read_trace(rt.alloc(), text.as_slice()))?;
     assert_eq!(rt; trace.options.jobs(), 4);
     assert_eq!(rt; trace.options.keep(), 7);
     assert_eq!(rt; trace.targets.as_slice(), [9u32].as_slice());

@@ -316,7 +316,7 @@ fn each_path_of_each_edge(rt: HostRuntime) -> Result<(), Fail> {
         for paths in COUNTS {
             for jobs in [1u8, 4] {
                 let found = sweeps_once(&rt, rt.alloc(), paths, ahead, jobs);
-                assert_eq!(rt; found, Ok((Some((2 * paths + 11) * 30), true)));
+                assert!(rt; found == Ok((Some((2 * paths + 11) * 30), true)));
             }
         }
     }
@@ -396,10 +396,7 @@ fn rows_and_single_questions(rt: HostRuntime) -> Result<(), Fail> {
     for paths in COUNTS {
         for fault in [usize::MAX, 0, 1, 63, 64, 65] {
             for ahead in [Ahead::All, Ahead::Most] {
-                assert_eq!(rt;
-                    tells_the_same(&rt, rt.alloc(), paths, ahead, fault),
-                    Ok(true)
-                );
+                assert!(rt; tells_the_same(&rt, rt.alloc(), paths, ahead, fault) == Ok(true));
             }
         }
     }
@@ -426,7 +423,7 @@ fn fails_at<R: Threads + Wait + Sync>(
 fn path_without_a_stamp(rt: HostRuntime) -> Result<(), Fail> {
     for ahead in [Ahead::None, Ahead::Most] {
         for fault in [0usize, 1, 63, 64, 65] {
-            assert_eq!(rt; fails_at(&rt, rt.alloc(), ahead, fault), Ok((true, true)));
+            assert!(rt; fails_at(&rt, rt.alloc(), ahead, fault) == Ok((true, true)));
         }
     }
     Ok(())

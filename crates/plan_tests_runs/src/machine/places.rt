@@ -66,7 +66,7 @@ fn place_comes_back(rt: HostRuntime) {
     let Some(image) = three(rt.alloc()) else {
         panic!(&rt; "no image");
     };
-    assert_eq!(rt; opened_in_turn(rt.alloc(), &image), Ok(true));
+    assert!(rt; opened_in_turn(rt.alloc(), &image) == Ok(true));
 }
 
 /// Starts all edges that can start, and returns how many, with the next edge that takes its job token.
@@ -110,17 +110,11 @@ fn long_chains_first(rt: HostRuntime) {
     let Some(chain) = image_of(rt.alloc(), &[single, single, after_one, single], &[0, 2, 3]) else {
         panic!(&rt; "no image");
     };
-    assert_eq!(rt;
-        opened_to_take(rt.alloc(), &chain),
-        Ok((3, Some(Mark::Took(1))))
-    );
+    assert!(rt; opened_to_take(rt.alloc(), &chain) == Ok((3, Some(Mark::Took(1)))));
     let Some(equal) = image_of(rt.alloc(), &[single, single, single], &[0, 1, 2]) else {
         panic!(&rt; "no image");
     };
-    assert_eq!(rt;
-        opened_to_take(rt.alloc(), &equal),
-        Ok((3, Some(Mark::Took(0))))
-    );
+    assert!(rt; opened_to_take(rt.alloc(), &equal) == Ok((3, Some(Mark::Took(0)))));
 }
 
 /// Returns the events `before`, a reply to edge 0 with a depfile that has no colon, and the events `after`.
@@ -162,13 +156,10 @@ fn malformed_depfile_holds_no_place(rt: HostRuntime) {
         panic!(&rt; "no image");
     };
     let failed = Mark::Failed(0, Cause::DepfileMalformed(90, 0));
-    assert_eq!(rt;
-        malformed(rt.alloc(), &image, &[]),
-        Ok((9, Some(failed), false))
-    );
-    assert_eq!(rt;
-        malformed(rt.alloc(), &image, &[Plain::Start(1), Plain::Step(1)]),
-        Ok((11, Some(Mark::Took(1)), false))
+    assert!(rt; malformed(rt.alloc(), &image, &[]) == Ok((9, Some(failed), false)));
+    assert!(rt;
+        malformed(rt.alloc(), &image, &[Plain::Start(1), Plain::Step(1)])
+            == Ok((11, Some(Mark::Took(1)), false))
     );
 }
 
@@ -195,11 +186,8 @@ fn failure_beside_others(rt: HostRuntime) {
         panic!(&rt; "no image");
     };
     let skipped = Some(Mark::Skipped(3, 0));
-    assert_eq!(rt; failing(rt.alloc(), &image, 0), Ok((20, skipped, true)));
-    assert_eq!(rt;
-        failing(rt.alloc(), &image, 1),
-        Err((6, Refused::NotEnabled))
-    );
+    assert!(rt; failing(rt.alloc(), &image, 0) == Ok((20, skipped, true)));
+    assert!(rt; failing(rt.alloc(), &image, 1) == Err((6, Refused::NotEnabled)));
     let stopped = [
         Plain::Start(0),
         Plain::Step(0),
@@ -210,12 +198,6 @@ fn failure_beside_others(rt: HostRuntime) {
         Plain::Stop(2),
         Plain::Skip(3, 0),
     ];
-    assert_eq!(rt;
-        ran(rt.alloc(), &image, 1, 1, &stopped),
-        Ok((8, skipped, true))
-    );
-    assert_eq!(rt;
-        ran(rt.alloc(), &image, 1, 0, &stopped),
-        Err((5, Refused::NotEnabled))
-    );
+    assert!(rt; ran(rt.alloc(), &image, 1, 1, &stopped) == Ok((8, skipped, true)));
+    assert!(rt; ran(rt.alloc(), &image, 1, 0, &stopped) == Err((5, Refused::NotEnabled)));
 }

@@ -1,5 +1,6 @@
 //! Tests of stamps that are asked for ahead of a build.
 
+use crate::outcome::value_of;
 use crate::stamps::cache::{asked_for, cache_of, keep_entry};
 use plan_record::{Entry, EntryFault};
 use plan_text::Items;
@@ -33,7 +34,7 @@ fn entries_in(alloc: Global) -> Result<Vec<Entry>, EntryFault> {
 /// Any number of threads asks once for the stamps of outputs and of recorded paths. A build doesn't ask for them again.
 #[test]
 fn asked_once(rt: HostRuntime) -> Result<(), Fail> {
-    let entries = entries_in(rt.alloc())?;
+    let entries = value_of(entries_in(rt.alloc()))?;
     for threads in 1..4usize {
         let cache = cache_of(&rt, 64, 0)?;
         cache.ask_ahead(&entries, threads, &AtomicBool::new(false));
@@ -49,7 +50,7 @@ fn asked_once(rt: HostRuntime) -> Result<(), Fail> {
 /// Checks that no stamp is asked for ahead after a command has begun, after the build has ended, or without a thread.
 #[test]
 fn nothing_is_asked(rt: HostRuntime) -> Result<(), Fail> {
-    let entries = entries_in(rt.alloc())?;
+    let entries = value_of(entries_in(rt.alloc()))?;
     let cache = cache_of(&rt, 64, 0)?;
     cache.ask_ahead(&entries, 2, &AtomicBool::new(true));
     cache.ask_ahead(&entries, 0, &AtomicBool::new(false));
