@@ -49,13 +49,18 @@ def are_laid_out() -> bool:
     return subprocess.run([str(KIT / "bin" / "rattle"), "fmt", "--check", *files]).returncode == 0
 
 
+def remove_module(crate: pathlib.Path, name: str) -> None:
+    """Removes the files of a module from a crate, with what is written of its proofs."""
+    for path in (crate / "src" / f"{name}.rt", crate / "src" / name, crate / "proofs" / name):
+        remove(path)
+
+
 def without_tests(crate: pathlib.Path) -> None:
     """Removes the modules of tests from a crate, with what is written of their proofs."""
     for root in (crate / "src" / "lib.rt", crate / "src" / "main.rt"):
         text = root.read_text() if root.is_file() else ""
         for name in TESTS.findall(text):
-            for path in (root.with_name(f"{name}.rt"), root.with_name(name), crate / "proofs" / name):
-                remove(path)
+            remove_module(crate, name)
         if TESTS.search(text):
             root.write_text(TESTS.sub("", text).rstrip("\n") + "\n")
 
