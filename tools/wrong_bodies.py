@@ -13,6 +13,7 @@ from __future__ import annotations
 import argparse
 import concurrent.futures
 import pathlib
+import re
 import shutil
 import tempfile
 from typing import NamedTuple
@@ -75,7 +76,10 @@ def tried(test: Test, edit: Edit | None) -> str:
             file.write_text(text.replace(edit.old, edit.new))
         keep_only(test.name.partition("::")[0], home / "crates" / test.crate)
         said = without_proofs.run_tests(home / "crates" / test.crate, SECONDS, [test.name]).said
-        return next((line for line in reversed(said.splitlines()) if line.startswith("run=")), "no run")
+        ended = next((line for line in reversed(said.splitlines()) if line.startswith("run=")), "no run")
+        if ended.startswith(FAILED) and not re.search(rf"^test {test.name} \.\.\. FAILED$", said, re.MULTILINE):
+            return f"another test than {test.name} failed"
+        return ended
 
 
 def main() -> None:
