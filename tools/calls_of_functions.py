@@ -55,7 +55,7 @@ def counted(lines: Iterable[str]) -> dict[str, Calls]:
 
 def of_program(crate: pathlib.Path) -> dict[str, Calls]:
     """Returns the calls of each function of a program and the crates below it."""
-    with unproved.locked(crate), tempfile.TemporaryDirectory() as home:
+    with tempfile.TemporaryDirectory() as home:
         with open(unproved.module_of(crate, pathlib.Path(home)), encoding="utf-8", errors="replace") as module:
             return counted(module)
 

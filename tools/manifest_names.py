@@ -10,7 +10,7 @@ stand lines `KEY: VALUE`, which go on with lines that are indented by two spaces
   rows       folders of tests/rows, as NAME or LAYER/NAME
   cases      cases of tests/images, as FILE/NAME
   builds     cases of tests/builds, as FILE/NAME
-  tests      unit tests, in the crate or in a crate plan_tests_*
+  tests      unit tests, in the crate or in the module of a crate plan_tests_* that is named after it
   examples   Rows: examples that the checker computes in proofs/Rows.antt
   edits      wrong bodies that the prover refuses, in tests/must_fail/ or in tests/edits/
 
@@ -193,7 +193,8 @@ def faults_of(rule: Rule, functions: Functions) -> Iterator[str]:
     for crate, text in rule.groups("tests"):
         own = ROOT.glob(f"crates/{crate}/src/**/*.rt")
         name = re.sub("^plan_", "", crate)
-        apart = [*ROOT.glob(f"crates/plan_tests_*/src/{name}.rt"), *ROOT.glob(f"crates/plan_tests_{name}/src/*.rt")]
+        tests = "crates/plan_tests_*/src"
+        apart = [*ROOT.glob(f"{tests}/{name}.rt"), *ROOT.glob(f"{tests}/{name}/*.rt")]
         content = "".join(path.read_text() for path in (*own, *apart))
         yield from (f"no test {name} in {crate}" for name in re.findall(r"\w+", text) if f"fn {name}(" not in content)
     for crate, _ in rule.groups("examples"):

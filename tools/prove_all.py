@@ -3,8 +3,8 @@
 
 `rt ci` also proves unit tests, and each crate that has some a second time: more than half as much work as all the rest.
 A proof of a test says nothing of the programs, so the gate runs tests without proofs (tools/unit_tests.py). Here `rt
-ci` is run on a copy of the repository in which crates that only have tests, or data for them, are missing, and so are
-the modules below `#[cfg(test)]`. Before that, the layout of all files is checked, those of tests too. What `rt ci`
+ci` is run on a copy of the repository in which crates that only have tests are missing, and so are the modules
+below `#[cfg(test)]`. Before that, the layout of all files is checked, those of tests too. What `rt ci`
 makes is moved to crates/*/out: libraries and programs. By itself, `rt ci` still proves the tests too.
 
 If crates are named, only they and the crates below them are proved, as the sources are when it starts. Nothing is moved
@@ -28,7 +28,7 @@ from typing import Callable, TextIO
 from over_sources import KIT
 
 ROOT = pathlib.Path(__file__).resolve().parent.parent
-ONLY_TESTS = re.compile(r"(?:plan_tests_\w+|plan_samples):")
+ONLY_TESTS = re.compile(r"plan_tests_\w+:")
 PROVED = re.compile(r"rt: (\w+) (?:proved$|is kept: )")
 Proved = Callable[[str, pathlib.Path], None]  # gets a crate that is proved, and the folder of what was made of it
 TESTS = re.compile(r"^#\[cfg\(test\)\]\nmod (\w+);\n", re.MULTILINE)
@@ -49,13 +49,18 @@ def are_laid_out() -> bool:
     return subprocess.run([str(KIT / "bin" / "rattle"), "fmt", "--check", *files]).returncode == 0
 
 
+def remove_module(crate: pathlib.Path, name: str) -> None:
+    """Removes the files of a module from a crate, with what is written of its proofs."""
+    for path in (crate / "src" / f"{name}.rt", crate / "src" / name, crate / "proofs" / name):
+        remove(path)
+
+
 def without_tests(crate: pathlib.Path) -> None:
     """Removes the modules of tests from a crate, with what is written of their proofs."""
     for root in (crate / "src" / "lib.rt", crate / "src" / "main.rt"):
         text = root.read_text() if root.is_file() else ""
         for name in TESTS.findall(text):
-            for path in (root.with_name(f"{name}.rt"), root.with_name(name), crate / "proofs" / name):
-                remove(path)
+            remove_module(crate, name)
         if TESTS.search(text):
             root.write_text(TESTS.sub("", text).rstrip("\n") + "\n")
 

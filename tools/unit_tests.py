@@ -1,5 +1,5 @@
 #!/usr/bin/env python3
-"""Runs the unit tests of crates, compiled without proofs (`rt try`): of all crates that have some, or of those named.
+"""Runs the unit tests of crates, compiled without proofs: of all crates that have some, or of those named.
 
 The gate proves what users run, and runs the tests of it. A crate's tests pass if all of them do, and if there are as
 many as functions marked as tests. The last line is `N passed, M failed`, of crates.
@@ -10,10 +10,10 @@ import argparse
 import concurrent.futures
 import pathlib
 import re
-import subprocess
 import time
 
 import tests_path  # noqa: F401: it makes lib known
+import without_proofs
 from lib import programs
 
 ROOT = pathlib.Path(__file__).resolve().parent.parent
@@ -32,21 +32,19 @@ def count(crate: str) -> int:
 def passes(crate: str) -> bool:
     """Runs the tests of a crate, and prints how they ended; all that they printed if one failed."""
     begun = time.monotonic()
-    words = ["rt", "try", "--test", "--seconds", str(SECONDS)]
-    done = subprocess.run(words, cwd=ROOT / "crates" / crate, stdout=subprocess.PIPE, stderr=subprocess.STDOUT)
-    said = done.stdout.decode(errors="replace")
+    status, said = without_proofs.run_tests(ROOT / "crates" / crate, SECONDS)
     result = RESULT.search(said)
-    passed = result is not None and int(result[1]) == count(crate) and ENDED.search(said) is not None
+    passed = status == 0 and ENDED.search(said) is not None and result is not None and int(result[1]) == count(crate)
     took = f"{time.monotonic() - begun:.0f} s"
     told = f"{count(crate)} tests passed, {took}" if passed else f"FAILED, {took}\n{said}"
     print(f"{crate}: {told}", flush=True)
-    return passed and done.returncode == 0
+    return passed
 
 
 def main() -> None:
     parser = argparse.ArgumentParser(description=__doc__, formatter_class=argparse.RawDescriptionHelpFormatter)
     parser.add_argument("crates", metavar="CRATE", nargs="*")
-    parser.add_argument("--jobs", type=int, default=2, help="how many crates side by side, of two processors each")
+    parser.add_argument("--jobs", type=int, default=4, help="how many crates side by side, of a processor each")
     asked = parser.parse_args()
     found = sorted(path.name for path in (ROOT / "crates").iterdir() if (path / "src").is_dir() and count(path.name))
     unknown = [crate for crate in asked.crates if crate not in found]

@@ -2,27 +2,32 @@
 """Tries the wrong bodies of tests/wrong_bodies: no contract can refuse them, so a unit test has to.
 
 They say nothing wrong and are of no use: lanes that work one after another, or a call that always answers want of
-memory. Such an edit names, in its line `tests:`, a crate of tests and one of its tests. On copies of the tree the test
-has to pass (`rt try`, which proves nothing), and has to fail once the edit is made. With --tests-passed it isn't run
-without the edit, since all tests have just passed on these sources. With --gate only edits are tried that have a line
-`gate:`, which says what they would break. Two tests run side by side. The last line is `N passed, M failed`.
+memory. Such an edit names, in its line `tests:`, a crate of tests and the path of one of its tests. On copies of the
+tree the test has to pass, compiled without proofs, and has to fail once the edit is made. Other modules of tests are
+left out of the copies, to save time. With --tests-passed the test isn't run without the edit, since all tests have just
+passed on these sources. With --gate only edits are tried that have a line `gate:`, which says what they would break.
+Two tests run side by side. The last line is `N passed, M failed`.
 """
 from __future__ import annotations
 
 import argparse
 import concurrent.futures
 import pathlib
+import re
 import shutil
-import subprocess
 import tempfile
 from typing import NamedTuple
 
+import prove_all
 import tests_path  # noqa: F401: it makes lib known
+import unit_tests
+import without_proofs
 from lib import programs
 
 ROOT = pathlib.Path(__file__).resolve().parent.parent
 PASSED, FAILED = "run=ended status=0", "run=ended status=101"
 SIDE_BY_SIDE = 2
+SECONDS = 60  # at most, for the test
 
 
 class Test(NamedTuple):
@@ -45,8 +50,21 @@ def read(path: pathlib.Path) -> Edit:
     return Edit(path.parent.name, test, said["file"], said["old"], said["new"], bool(said.get("gate")))
 
 
+def keep_only(module: str, crate: pathlib.Path) -> None:
+    """Leaves the other modules of tests out of a crate; a module without tests may serve the one that is kept."""
+    source = crate / "src"
+    text = (source / "lib.rt").read_text()
+    for declared in prove_all.TESTS.finditer(text):
+        name = declared[1]
+        files = [source / f"{name}.rt", *(source / name).glob("**/*.rt")]
+        if name != module and any(unit_tests.TEST.search(file.read_text()) for file in files):
+            prove_all.remove_module(crate, name)
+            text = text.replace(declared[0], "")
+    (source / "lib.rt").write_text(text)
+
+
 def tried(test: Test, edit: Edit | None) -> str:
-    """What the last line of `rt try` says of a test, on a copy of the tree with this edit."""
+    """Returns the line that says how a test ended, on a copy of the tree with this edit."""
     with tempfile.TemporaryDirectory() as folder:
         home = pathlib.Path(folder) / "tree"
         shutil.copytree(ROOT, home, ignore=shutil.ignore_patterns(".git", "out"))
@@ -56,10 +74,12 @@ def tried(test: Test, edit: Edit | None) -> str:
             if text.count(edit.old) != 1:
                 return f"the text stands {text.count(edit.old)} times in {edit.file}"
             file.write_text(text.replace(edit.old, edit.new))
-        words = ["rt", "try", "--test", "--", test.name]
-        done = subprocess.run(words, cwd=home / "crates" / test.crate, capture_output=True, text=True)
-        lines = (done.stdout + done.stderr).splitlines()
-        return next((line for line in reversed(lines) if line.startswith("run=")), "no run")
+        keep_only(test.name.partition("::")[0], home / "crates" / test.crate)
+        said = without_proofs.run_tests(home / "crates" / test.crate, SECONDS, [test.name]).said
+        ended = next((line for line in reversed(said.splitlines()) if line.startswith("run=")), "no run")
+        if ended.startswith(FAILED) and not re.search(rf"^test {test.name} \.\.\. FAILED$", said, re.MULTILINE):
+            return f"another test than {test.name} failed"
+        return ended
 
 
 def main() -> None:

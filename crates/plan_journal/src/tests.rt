@@ -150,7 +150,7 @@ fn read(alloc: Global, journal: &KeptJournal) -> Result<Vec<Said>, AllocError> {
 fn events_come_back(rt: HostRuntime) -> Result<(), Fail> {
     let builder: JournalBuilder<Kept> = full(rt.alloc())?;
     assert_eq!(rt; builder.len(), 8);
-    assert_eq!(rt; read_kept(rt.alloc(), builder)?.as_slice(), ALL.as_slice());
+    assert!(rt; read_kept(rt.alloc(), builder)?.as_slice() == ALL.as_slice());
     Ok(())
 }
 
@@ -166,7 +166,7 @@ fn steps_come_together(rt: HostRuntime) -> Result<(), Fail> {
         Said::Step(7),
         Said::Step(7),
     ];
-    assert_eq!(rt; read_kept(rt.alloc(), builder)?.as_slice(), said.as_slice());
+    assert!(rt; read_kept(rt.alloc(), builder)?.as_slice() == said.as_slice());
     Ok(())
 }
 
@@ -176,7 +176,7 @@ fn replies_come_back(rt: HostRuntime) -> Result<(), Fail> {
     builder.push_heard(4, &Reply::Stamp(9))?;
     builder.push_heard(5, &Reply::Exit(3))?;
     let said = [Said::Stamp(4, 9), Said::Exit(5, 3)];
-    assert_eq!(rt; read_kept(rt.alloc(), builder)?.as_slice(), said.as_slice());
+    assert!(rt; read_kept(rt.alloc(), builder)?.as_slice() == said.as_slice());
     Ok(())
 }
 
@@ -193,7 +193,7 @@ fn stamps_of_a_row_come_with_their_steps(rt: HostRuntime) -> Result<(), Fail> {
         Said::Stamp(7, 0),
         Said::Step(7),
     ];
-    assert_eq!(rt; read_kept(rt.alloc(), builder)?.as_slice(), said.as_slice());
+    assert!(rt; read_kept(rt.alloc(), builder)?.as_slice() == said.as_slice());
     Ok(())
 }
 
@@ -205,7 +205,7 @@ fn the_last_ones_leave(rt: HostRuntime) -> Result<(), Fail> {
             builder.remove_last();
         }
         assert_eq!(rt; builder.len(), left);
-        assert_eq!(rt; read_kept(rt.alloc(), builder)?.as_slice(), &ALL[..left]);
+        assert!(rt; read_kept(rt.alloc(), builder)?.as_slice() == &ALL[..left]);
     }
     Ok(())
 }
@@ -225,7 +225,7 @@ fn another_takes_its_place(rt: HostRuntime) -> Result<(), Fail> {
     builder.remove_last();
     builder.push(&event(Said::Stamp(6, 11)))?;
     let all = read_kept(rt.alloc(), builder)?;
-    assert_eq!(rt; all.last(), Some(&Said::Stamp(6, 11)));
+    assert!(rt; all.last() == Some(&Said::Stamp(6, 11)));
     assert_eq!(rt; all.len(), 7);
     Ok(())
 }

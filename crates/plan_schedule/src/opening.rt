@@ -201,10 +201,10 @@ pub fn open(alloc: Global, plan: &Plan, wanted: &[bool]) -> Result<Schedule, All
     let waiting = waiting_of(alloc, &plan.waits)?;
     let failed_wait = no_failed_waits(alloc, wanted.len())?;
     let pool_holders = zeros(alloc, pools)?;
+    let buckets = fill_buckets(alloc, &plan.pools, pools, wanted, &waiting)?;
+    let pool_buckets = fill_pool_buckets(alloc, pools)?;
     let open_edges = open_count(&phases);
     let ready = ReadyQueues::open(alloc, plan)?;
-    let pool_buckets = fill_pool_buckets(alloc, pools)?;
-    let buckets = fill_buckets(alloc, &plan.pools, pools, wanted, &waiting)?;
     Ok(Schedule {
         phases,
         waiting,

@@ -1,0 +1,128 @@
+//! Tests each public function on command lines that were also given to ninja 1.11.
+
+use crate::outcome::value_of;
+use plan_options::*;
+use std::test::Fail;
+
+/// Checks whether two lists have the same texts in the same order.
+fn are_texts(found: &[&[u8]], wanted: &[&[u8]]) -> bool {
+    if found.len() != wanted.len() {
+        return false;
+    }
+    for at in 0..found.len() {
+        if found[at] != wanted[at] {
+            return false;
+        }
+    }
+    true
+}
+
+#[test]
+fn line_with_options(rt: HostRuntime) -> Result<(), Fail> {
+    let words: [&[u8]; 8] = [b"a", b"-vj3", b"-C", b"out", b"--qui", b"-k", b"-1", b"b"];
+    let line = value_of(CommandLine::read(rt.alloc(), &words))?;
+    assert_eq!(rt; line.arguments().len(), 7);
+    assert!(rt; line.stop().is_none());
+    assert!(rt; line.value(Setting::Folder) == Some(b"out".as_slice()));
+    assert!(rt; line.value(Setting::Manifest).is_none());
+    assert!(rt; line.verbosity() == Some(Flag::Quiet));
+    assert_eq!(rt; line.jobs(), Some(3));
+    assert_eq!(rt; line.failures(), 0);
+    assert!(rt; are_texts(&value_of(line.targets(rt.alloc()))?, &[b"a", b"b"]));
+    Ok(())
+}
+
+#[test]
+fn line_with_a_tool(rt: HostRuntime) -> Result<(), Fail> {
+    let words: [&[u8]; 5] = [b"-f", b"x.ninja", b"-tclean", b"-g", b"--version"];
+    let line = value_of(CommandLine::read(rt.alloc(), &words))?;
+    assert!(rt; line.stop().is_none());
+    assert!(rt; line.value(Setting::Tool) == Some(b"clean".as_slice()));
+    assert!(rt;
+        are_texts(
+            &value_of(line.tool_words(rt.alloc()))?,
+            &[b"-g", b"--version"]
+        )
+    );
+    assert!(rt; value_of(line.targets(rt.alloc()))?.is_empty());
+    Ok(())
+}
+
+#[test]
+fn lines_that_end(rt: HostRuntime) -> Result<(), Fail> {
+    for (word, stop) in [
+        (b"--vers".as_slice(), Stop::Version),
+        (b"--help".as_slice(), Stop::Help),
+        (b"-vx".as_slice(), Stop::Misuse),
+        (b"--ver".as_slice(), Stop::Misuse),
+        (b"-j-1".as_slice(), Stop::InvalidJobs),
+        (b"-kx".as_slice(), Stop::InvalidFailures),
+        (b"-lx".as_slice(), Stop::InvalidLoad),
+        (b"-dlist".as_slice(), Stop::ModeList),
+        (b"-dnosuch".as_slice(), Stop::UnknownMode),
+        (b"-wlist".as_slice(), Stop::WarningList),
+        (b"-wnosuch".as_slice(), Stop::UnknownWarning),
+    ] {
+        let line = value_of(CommandLine::read(rt.alloc(), &[b"a", word]))?;
+        let found = match line.stop() {
+            Some(argument) => stop_of(argument),
+            None => None,
+        };
+        assert!(rt; found == Some(stop));
+    }
+    Ok(())
+}
+
+#[test]
+fn names_of_flags(rt: HostRuntime) -> Result<(), Fail> {
+    let flags = value_of(flags_named(rt.alloc(), b"ve"))?;
+    assert!(rt; flags.as_slice() == [Flag::Version, Flag::Verbose].as_slice());
+    assert!(rt; name_of(Flag::Quiet) == b"quiet".as_slice());
+    assert!(rt; long_name_in(b"--ver=1") == b"ver".as_slice());
+    assert_eq!(rt; Setting::Tool.letter(), b't');
+    Ok(())
+}
+
+#[test]
+fn numbers(rt: HostRuntime) {
+    for (text, wanted) in [
+        (b"8".as_slice(), Some(Integer::AtLeastZero(8))),
+        (b" +8".as_slice(), Some(Integer::AtLeastZero(8))),
+        (b"".as_slice(), Some(Integer::AtLeastZero(0))),
+        (b"-8".as_slice(), Some(Integer::Negative)),
+        (
+            b"99999999999999999999".as_slice(),
+            Some(Integer::AtLeastZero(64)),
+        ),
+        (b"8x".as_slice(), None),
+    ] {
+        assert!(rt; integer_in(text, 64) == wanted);
+    }
+}
+
+#[test]
+fn words_of_tools(rt: HostRuntime) -> Result<(), Fail> {
+    let words: [&[u8]; 6] = [b"-gr", b"a", b"-", b"-x", b"--", b"-g"];
+    assert_eq!(rt;
+        value_of(option_letters(rt.alloc(), &words))?.as_slice(),
+        b"grx".as_slice()
+    );
+    assert!(rt;
+        are_texts(
+            &value_of(operands(rt.alloc(), &words))?,
+            &[b"a", b"-", b"-g"]
+        )
+    );
+    assert!(rt; value_of(CommandLine::read(rt.alloc(), &[b"-vn"]))?.is_dry_run());
+    assert!(rt; !value_of(CommandLine::read(rt.alloc(), &[b"-t", b"clean", b"-n"]))?.is_dry_run());
+    Ok(())
+}
+
+#[test]
+fn explained(rt: HostRuntime) -> Result<(), Fail> {
+    let words: [&[u8]; 4] = [b"-dexplain", b"a", b"-d", b"stats"];
+    assert!(rt; value_of(CommandLine::read(rt.alloc(), &words))?.is_explained());
+    assert!(rt; !value_of(CommandLine::read(rt.alloc(), &[b"-d", b"stats"]))?.is_explained());
+    assert!(rt; !value_of(CommandLine::read(rt.alloc(), &[b"-w", b"explain"]))?.is_explained());
+    Ok(())
+}

@@ -1,5 +1,0 @@
-//! The tests of plan_options. They are in a crate of their own, because the code of a crate with tests is proved twice.
-#![tactic(auto)]
-
-#[cfg(test)]
-mod options;

@@ -1,5 +1,0 @@
-use Rattle.plan_machine.specs.Kept.{IsStateOf}
-use Rattle.plan_tests_pools.proofs.places.next_place.Given as goal
-
-abbrev pub invariant-loop-i : goal.invariant-loop-i
-invariant-loop-i l = IsStateOf l.image l.state

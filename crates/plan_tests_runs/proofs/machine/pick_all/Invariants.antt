@@ -1,0 +1,6 @@
+use Rattle.std.proofs.Common.{◌≤◌}
+use Rattle.plan_machine.specs.Kept.{IsStateOf}
+use Rattle.plan_tests_runs.proofs.machine.pick_all.Given as goal
+
+abbrev pub invariant-loop-i : goal.invariant-loop-i
+invariant-loop-i l = IsStateOf l.image l.state × (l.count ≤ l._i)

@@ -1,0 +1,5 @@
+use Rattle.plan_machine.specs.Kept.{IsStateOf}
+use Rattle.plan_tests_runs.proofs.machine.places.first_to_take.Given as goal
+
+abbrev pub invariant-loop-i : goal.invariant-loop-i
+invariant-loop-i l = IsStateOf l.image l.state
