@@ -481,7 +481,5 @@ pub fn do_build<
     ensures format { F.kept result.1.format ≡ F.kept printer.format }
 {
     let mut kept = Kept::new(false);
-    build_in_rounds(
-        rt, alloc, source, order, world, &mut kept, parker, printer,
-    )
+    build_in_rounds(rt, alloc, source, order, world, &mut kept, parker, printer)
 }

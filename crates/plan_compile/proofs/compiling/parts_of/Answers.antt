@@ -75,7 +75,7 @@ returns-in_err-coded-clause-refused g c =
     let fault : CompileFault = c.in_err-coded.field-0.0 in
     let refused : RefusesEdges fault t.edges (codes t.edges) = subst (λ (xs : List Build). RefusesEdges fault xs (codes xs)) all c.in_err-coded.ensures.refused in
     let few : length graph.files ≤ 4194304 = c.requires.few in
-    let p = err_from_is_err_and c.from_residual-in_err-coded.result c.from_residual-in_err-coded.ensures.1 in
+    let p = err_from_is_err_and c.from_residual.result c.from_residual.ensures.1 in
     subst (λ r. IfErr r (λ (f : CompileFault). IsRefused c.args.rule m graph f)) (sym (p.1 ∙ ap (λ e. Err e) p.2))
     (edges_refused c.args.rule m graph fault (codes t.edges) few (all_codes t sound c.len-2.result (table t.edges) ks (newest_from zero t.edges) count refl numbers refl) refused)
 
