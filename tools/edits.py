@@ -15,11 +15,12 @@ those of tests/edits too. With --fit none is tried: each text that an edit repla
 those that tools/wrong_bodies.py tries. The last line is `N passed, M failed`.
 
 Each line on an edit says `N=..`: how many functions a check of the edit checks, those that it changes and all that they
-call in their crate. An edit costs what its N costs, so an edit of the gate whose N is 15 or more counts as failed. If
-an edit is tried by itself, N is the prover's own count. If edits are tried at once, the prover counts the functions of
-all. Then N of an edit is the number of those that the changed function reaches in the call graph (call_graph.py), and
-of those that the graph lacks. The graph has too many calls rather than too few. So an edit with 15 or more by the graph
-is tried by itself, and the prover's count decides.
+call in their crate. An edit costs what its N costs, so an edit of the gate whose N is 15 or more counts as failed,
+unless a line `costly:` says why the gate tries it all the same: it is one of the wrong bodies that the theorems are
+there to refuse, and no lower function can make its mistake. If an edit is tried by itself, N is the prover's own count.
+If edits are tried at once, the prover counts the functions of all. Then N of an edit is the number of those that the
+changed function reaches in the call graph (call_graph.py), and of those that the graph lacks. The graph has too many
+calls rather than too few. So an edit with 15 or more by the graph is tried by itself, and the prover's count decides.
 """
 from __future__ import annotations
 
@@ -64,6 +65,7 @@ class Edit(NamedTuple):
     changes: list[Change]
     checked: list[str]
     reason: bool
+    costly: bool
 
     @property
     def crate(self) -> str:
@@ -80,7 +82,8 @@ class Result(NamedTuple):
 
 def read(path: pathlib.Path) -> Edit:
     """Returns the edit of a file."""
-    changes, checked, reason, file, old = [], [], False, "", ""
+    changes, checked, file, old = [], [], "", ""
+    words: set[str] = set()
     for line in path.read_text().splitlines():
         word, _, rest = line.partition(": ")
         if word == "file":
@@ -91,8 +94,8 @@ def read(path: pathlib.Path) -> Edit:
             changes.append(Change(file, old, line[len("new: "):]))
         elif word == "check":
             checked.append(rest)
-        reason = reason or word == "refused-in-answer"
-    return Edit(path, changes, checked, reason)
+        words.add(word)
+    return Edit(path, changes, checked, "refused-in-answer" in words, "costly" in words)
 
 
 def edits_of(crate: str, folders: Sequence[str]) -> list[Edit]:
@@ -175,9 +178,9 @@ class Reach:
         self.program, self.is_gate = call_graph.Program(), is_gate
         self.known: dict[call_graph.Function, set[call_graph.Function]] = {}
 
-    def is_high(self, count: int | None) -> bool:
+    def is_high(self, edit: Edit, count: int | None) -> bool:
         """Returns whether an edit of the gate has too many functions checked, or nobody counted them."""
-        return self.is_gate and (count is None or count >= LIMIT)
+        return self.is_gate and not edit.costly and (count is None or count >= LIMIT)
 
     def named(self, crate: str, name: str) -> list[call_graph.Function]:
         """Returns the functions of a crate by a name as `functions` returns it, or as a line `check:` has it."""
@@ -288,7 +291,7 @@ def make_together(edits: Sequence[Edit], home: pathlib.Path, reach: Reach) -> li
             continue
         names = functions(edit, home)
         changed, reached = reach.changed(edit, names), reach.reached(edit, names)
-        if any(name.endswith("::") or not name for name in names) or reach.is_high(len(reached)):
+        if any(name.endswith("::") or not name for name in names) or reach.is_high(edit, len(reached)):
             continue
         if all(one.changed.isdisjoint(reached) and changed.isdisjoint(one.reached)
                and set(names).isdisjoint(one.names) for one in made):
@@ -325,17 +328,17 @@ def try_all(edits: Sequence[Edit], proved: pathlib.Path, folder: pathlib.Path, r
     home = folder / crate
     home.mkdir()
     words = [*over_sources.words(crate, over_sources.crates(), proved), "--incremental", str(folder / f"kept-{crate}")]
-    left, together = list(edits), {}
+    left, together = sorted(edits, key=lambda edit: edit.costly), {}
     while left and len(made := make_together(left, home, reach)) > 1:
         together.update(try_together(made, words, home))
         left = [edit for edit in left if all(edit is not one.edit for one in made)]
     for edit in edits:
         begun, took = time.monotonic(), "at once"
         result = together.get(edit.path)
-        if result is None or reach.is_high(result.count):
+        if result is None or reach.is_high(edit, result.count):
             result = try_one(edit, words, home)
             took = f"{time.monotonic() - begun:.0f} s"
-        if result.passed and reach.is_high(result.count):
+        if result.passed and reach.is_high(edit, result.count):
             result = result._replace(passed=False, said=f"N must be below {LIMIT}: change a function that calls less")
         print(f"{edit.path.relative_to(ROOT)}: {'refused' if result.passed else 'FAILED'}, {took}, "
               f"N={'?' if result.count is None else result.count}: {result.said}", flush=True)
