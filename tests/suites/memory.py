@@ -3,7 +3,7 @@
 Each run must end in a fault of memory (status 2, as `plan: 22 Memory`, and nothing on standard output except for the
 first of a run's lines), or print all that it prints with ample memory. The numbers must come in the order in which the
 program calls what answers them: 22 of reading statements, 41 of evaluating, 54 of the graph, 101 of the compiler, 66 of
-reading and of making an image, 86 of the verifier, 111 of the machine, and 131 of the program itself before and after.
+reading an image, 86 of the verifier, 111 of the machine, and 131 of the program itself before and after.
 The suite needs a C compiler, for the library that refuses (lib/refusing.c). Each allocation counts as one check.
 """
 from __future__ import annotations
@@ -121,7 +121,7 @@ TRACE = b"plan-trace 1 j 4 k 0\ntarget 1\nstart 0\nstep 0\nreply 0 entry 7 63632
 
 
 REFUSED_MANIFEST = "131 22 41 54 131"
-CALLS = {"commands": "131 22 41 54 131", "compile": "131 22 41 54 101 131 66", "verify": "131 66 86 131",
+CALLS = {"commands": "131 22 41 54 131", "compile": "131 22 41 54 101", "verify": "131 66 86 131",
          "dump": "131 66 131", "replay": "131 66 86 131 111 131"}
 BAD_TRACE = "131 66 86 131"
 

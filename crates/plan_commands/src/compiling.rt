@@ -11,13 +11,12 @@ ghost use Rattle.plan_commands.specs.Compiling.{IsImageOf, SpellsImage, LacksIma
 
 use crate::commands::manifest_at;
 use crate::compile_fault::printed_compile_fault;
-use crate::image_fault::printed_image_fault;
 use plan_compile::{
     EdgeNames, OutOfDateRule, collect_names, compile, compile_with, image_is_shaped,
     manifests_are_sound,
 };
 use plan_graph::{Graph, MAX_EDGES, graph};
-use plan_image::{Image, ImageFault, print_image};
+use plan_image::{Image, print_image};
 use plan_printing::{PlanFault, no_memory, printed_graph_fault, write_fault};
 use plan_scope::{Manifest, Source, loaded_manifests_are_sound};
 use plan_text::Sink;
@@ -156,7 +155,7 @@ pub fn do_compile<S: Source, W: Sink>(
         return Err(no_memory(alloc));
     };
     let Ok(mut room) = Vec::with_capacity(alloc, ROOM) else {
-        return Err(printed_image_fault(alloc, ImageFault::Memory));
+        return Err(no_memory(alloc));
     };
     let manifest = manifest_at(alloc, source, path)?;
     loaded_manifests_are_sound::<S>();
