@@ -150,13 +150,13 @@ def minutes_of_all() -> float:
     return (own.ru_utime + own.ru_stime + others.ru_utime + others.ru_stime) / 60
 
 
-def proved_meanwhile(checks: Checks) -> list[Check]:
+def proved_meanwhile(checks: Checks, anew: bool) -> list[Check]:
     """Proves all crates. Meanwhile and then runs the checks that need some of them, or none."""
     begun = minutes_of_all()
     with tempfile.TemporaryDirectory(prefix="gate-", dir=ROOT / "out") as folder:
         starter = Starter(checks, pathlib.Path(folder))
         with open(ROOT / "gate.log", "w", encoding="utf-8") as log:
-            passed = prove_all.prove(log, starter.proved) == 0
+            passed = prove_all.prove(log, starter.proved, anew=anew) == 0
         starter.begin()
         checks.widen()
         found = checks.ended()
@@ -164,11 +164,11 @@ def proved_meanwhile(checks: Checks) -> list[Check]:
     return [Check("proofs", passed, proofs), *found]
 
 
-def run(checks: Checks) -> list[Check]:
+def run(checks: Checks, anew: bool) -> list[Check]:
     """Runs the gate. Leaves out what comes after checks of which one failed."""
     found = checks.run_all(FIRST)
     if all(check.passed for check in found):
-        found += proved_meanwhile(checks)
+        found += proved_meanwhile(checks, anew)
     if all(check.passed for check in found):
         found.append(checks.show("tests of the programs", ["make", "tests"]))
     return found
@@ -184,12 +184,14 @@ def end(found: list[Check], began: float) -> None:
 
 
 def main() -> None:
-    argparse.ArgumentParser(description=__doc__, formatter_class=argparse.RawDescriptionHelpFormatter).parse_args()
+    parser = argparse.ArgumentParser(description=__doc__, formatter_class=argparse.RawDescriptionHelpFormatter)
+    parser.add_argument("--anew", action="store_true", help="prove again what an earlier run proved on this machine")
+    anew = parser.parse_args().anew
     signal.signal(signal.SIGTERM, lambda *_: sys.exit(143))  # so that all that runs is ended
     (ROOT / "out").mkdir(exist_ok=True)
     began, checks = time.monotonic(), Checks()
     try:
-        found = run(checks)
+        found = run(checks, anew)
     except BaseException:
         checks.stop()
         raise

@@ -94,9 +94,9 @@ def move_back(home: pathlib.Path) -> None:
         shutil.move(str(made), str(to / made.name))
 
 
-def run_ci(home: pathlib.Path, crates: Sequence[str], log: TextIO, proved: Proved) -> int:
+def run_ci(home: pathlib.Path, words: Sequence[str], log: TextIO, proved: Proved) -> int:
     """Runs `rt ci` on a copy, and writes what it says to a log too. Tells of each crate that is proved."""
-    run = subprocess.Popen(["rt", "ci", *crates], cwd=home, stdout=subprocess.PIPE, text=True, errors="replace")
+    run = subprocess.Popen(["rt", "ci", *words], cwd=home, stdout=subprocess.PIPE, text=True, errors="replace")
     try:
         for line in run.stdout or ():
             print(line, end="", flush=True)
@@ -110,8 +110,11 @@ def run_ci(home: pathlib.Path, crates: Sequence[str], log: TextIO, proved: Prove
         raise
 
 
-def prove(log: TextIO, proved: Proved, crates: Sequence[str] = ()) -> int:
-    """Proves all crates, or those named and the ones below them, and returns the status."""
+def prove(log: TextIO, proved: Proved, crates: Sequence[str] = (), anew: bool = False) -> int:
+    """Proves all crates, or those named and the ones below them, and returns the status.
+
+    What an earlier run proved on this machine is kept, unless it is to be proved anew.
+    """
     if not are_laid_out():
         print("run rt fmt in the crates of these files", file=sys.stderr)
         return 1
@@ -120,7 +123,7 @@ def prove(log: TextIO, proved: Proved, crates: Sequence[str] = ()) -> int:
         home = pathlib.Path(name)
         (home / ".git").mkdir()  # so that the copy counts as a repository
         copy_without_tests(home)
-        status = run_ci(home, crates, log, proved)
+        status = run_ci(home, [*["--anew"] * anew, *crates], log, proved)
         lacking = [] if crates else unmade(home)
         if not crates:
             move_back(home)
