@@ -12,16 +12,16 @@ image_of-image-requires g c =
 pub returns-in-Err-clause-refused : goal.returns-in-Err-clause-refused
 returns-in-Err-clause-refused g c = inl (refl, not_compiled Specified _ c.args.path.now c.in_ok-manifest.manifest c.in-Err.fault c.in_ok-manifest.ensures.meant c.in-Err.ensures.refused)
 
-pub returns-clause-refused : goal.returns-clause-refused
-returns-clause-refused g c =
+pub returns-in-Err-print_image-clause-refused : goal.returns-in-Err-print_image-clause-refused
+returns-in-Err-print_image-clause-refused g c =
     let meant = c.in_ok-manifest.ensures.meant in
     inr (record {
       lines = meant.0;
       manifest = c.in_ok-manifest.manifest;
-      bytes = spelling c.in-Ok.image;
+      bytes = spelling c.in-Ok-image.image;
       loaded = meant.1;
       means = meant.2;
-      spells = c.in-Ok.ensures.spelled;
+      spells = c.in-Ok-image.ensures.spelled;
       failed = search rules;
-      says = c.in-Ok-write_fault.ensures;
+      says = c.in-Ok.ensures;
     })
