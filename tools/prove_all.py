@@ -3,9 +3,9 @@
 
 `rt ci` also proves unit tests, and each crate that has some a second time: more than half as much work as all the rest.
 A proof of a test says nothing of the programs, so the gate runs tests without proofs (tools/unit_tests.py). Here `rt
-ci` is run on a copy of the repository in which crates that only have tests are missing, and so are the modules
-below `#[cfg(test)]`. Before that, the layout of all files is checked, those of tests too. What `rt ci`
-makes is moved to crates/*/out: libraries and programs. By itself, `rt ci` still proves the tests too.
+ci` is run on a copy of the repository in which crates that only have tests are missing, and so are the modules below
+`#[cfg(test)]`. Before that, the layout of all files is checked, those of tests too. What `rt ci` makes is moved to
+crates/*/out: libraries and programs. By itself, `rt ci` still proves the tests too.
 
 If crates are named, only they and the crates below them are proved, as the sources are when it starts. Nothing is moved
 then, but `rt ci` keeps what passes, so the gate doesn't prove it again. Use it to prove lower crates while you change
