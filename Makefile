@@ -20,7 +20,7 @@ help:
 	@echo "Change it:"
 	@echo "  make quick     prove one crate, or one module of it (CRATE=plan_text ONLY=path); 5 to 60 s for a module"
 	@echo "  make rows      run the rows, or some of them (NAMES='tab_* scopes/*'); half a minute"
-	@echo "  make units     run the unit tests, compiled without proofs; four minutes"
+	@echo "  make units     run the unit tests, compiled without proofs; nine minutes of a processor"
 	@echo "  make tests     run all tests of the program; 4 to 6 minutes"
 	@echo "  make check     run the whole gate: proofs, must-fail edits, tests"
 	@echo "  make edits     try the must-fail edits, also those that the gate leaves out (CRATES=plan_text); a minute each"

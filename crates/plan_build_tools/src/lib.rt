@@ -1,5 +1,5 @@
-//! The tools of plan_build: what `-t` runs. plan_tools chooses and writes what a tool lists or removes; this crate reads
-//! manifests and the record, removes files, and prints.
+//! The tools of plan_build, which `-t` runs. plan_tools chooses the files that a tool removes and writes the lines that
+//! it prints. This crate reads manifests and the record, removes files, and prints.
 //!
 //! - `Tool`, `tool_named`, `unknown_tool`: the tools by their names.
 //! - `Request`, `request_in`: the words of a command line for a tool.

@@ -1,4 +1,4 @@
--- The edges of a manifest in the order of their graph, with the names that were collected of them.
+-- The edges of a manifest, in its order, and the names that were collected of them.
 use Rattle.std.specs.Prelude.{◌≡◌, ◌≤◌, length, map}
 use Rattle.plan_scope.specs.declared.manifest.Manifest.{Manifest}
 use Rattle.plan_graph.specs.declared.graph_data.Graph.{Graph}

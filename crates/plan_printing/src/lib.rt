@@ -1,4 +1,4 @@
-//! What the programs print, and the files that they read and write.
+//! The text that the programs print, and the files that they read and write.
 //!
 //! - `PlanFault`: the reason why a program refuses, with the line that is printed. `printed_fault` and
 //!   `printed_graph_fault` convert faults of a manifest. `file_fault`, `write_fault`, `output_fault`, `lost_output`,
