@@ -94,6 +94,12 @@ def move_back(home: pathlib.Path) -> None:
         shutil.move(str(made), str(to / made.name))
 
 
+def keeps_proofs() -> bool:
+    """Checks whether `rt ci` of this kit keeps what passes. If it doesn't, it proves all crates each time."""
+    said = subprocess.run(["rt", "help"], stdout=subprocess.PIPE, stderr=subprocess.STDOUT, text=True, errors="replace")
+    return "--anew" in said.stdout
+
+
 def run_ci(home: pathlib.Path, words: Sequence[str], log: TextIO, proved: Proved) -> int:
     """Runs `rt ci` on a copy, and writes what it says to a log too. Tells of each crate that is proved."""
     run = subprocess.Popen(["rt", "ci", *words], cwd=home, stdout=subprocess.PIPE, text=True, errors="replace")
@@ -123,7 +129,8 @@ def prove(log: TextIO, proved: Proved, crates: Sequence[str] = (), anew: bool = 
         home = pathlib.Path(name)
         (home / ".git").mkdir()  # so that the copy counts as a repository
         copy_without_tests(home)
-        status = run_ci(home, [*["--anew"] * anew, *crates], log, proved)
+        words = ["--anew"] if anew and keeps_proofs() else []
+        status = run_ci(home, [*words, *crates], log, proved)
         lacking = [] if crates else unmade(home)
         if not crates:
             move_back(home)
