@@ -445,3 +445,45 @@ fn same_shared_rows_with_gaps(rt: HostRuntime) -> Result<(), Fail> {
     assert!(rt; !rows.is_same(&shared(alloc, b"ab.cdefgx", 0, &[(0, 2), (3, 6), (4, 2)])?));
     Ok(())
 }
+
+/// Adds a path for each number below `count`.
+fn add_paths(rt: &impl AllocGlobal, filter: &mut PathFilter, count: usize) -> Result<(), Fail> {
+    for number in 0..count {
+        let path = format!(in rt.alloc(); "CMakeFiles/app.dir/source/file_{number}.cpp.o")?;
+        filter.add(path.as_bytes());
+    }
+    Ok(())
+}
+
+/// Counts the paths with a number below `count` and this ending that may be in a filter.
+fn found(
+    rt: &impl AllocGlobal,
+    filter: &PathFilter,
+    count: usize,
+    ending: &str,
+) -> Result<usize, Fail> {
+    let mut found = 0;
+    for number in 0..count {
+        let path = format!(in rt.alloc(); "CMakeFiles/app.dir/source/file_{number}{ending}")?;
+        found += filter.may_have(path.as_bytes()) as usize;
+    }
+    Ok(found)
+}
+
+/// Takes a value that threads may share.
+fn is_shared<T: Send + Sync>(_value: &T) {}
+
+#[test]
+fn filter_of_paths(rt: HostRuntime) -> Result<(), Fail> {
+    let mut filter = PathFilter::new(rt.alloc(), 1_000)?;
+    is_shared(&filter);
+    assert_eq!(rt; found(&rt, &filter, 1_000, ".cpp.o")?, 0);
+    add_paths(&rt, &mut filter, 1_000)?;
+    filter.add(b"");
+    filter.add(b"a.o");
+    assert_eq!(rt; found(&rt, &filter, 1_000, ".cpp.o")?, 1_000);
+    assert!(rt; filter.may_have(b"") & filter.may_have(b"a.o"));
+    assert!(rt; !filter.may_have(b"b.o"));
+    assert!(rt; found(&rt, &filter, 1_000, ".hpp")? < 100);
+    Ok(())
+}

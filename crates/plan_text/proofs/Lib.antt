@@ -14,4 +14,5 @@ pub mod EscapeLaw
 pub mod CoverLaw
 pub mod JoinLaw
 mod HashWordsLemmas
+pub mod PathFilterLemmas
 pub mod SharedRowsLemmas

@@ -1,5 +1,5 @@
 -- Worked examples of the definitions.
-use Rattle.std.proofs.Common.{◌≡◌, ℕ, [], ◌∷◌, ◌++◌, true, false, Some, None, Ok, Err, refl}
+use Rattle.std.proofs.Common.{◌≡◌, ℕ, ◌+◌, ◌*◌, ◌^◌, [], ◌∷◌, ◌++◌, true, false, Some, None, Ok, Err, refl}
 use Rattle.std.specs.Prelude.{codes}
 use Rattle.plan_text.specs.declared.fault.TextFault.TheVariants.{EmptyPath, BadEscape, TabBlank, NulByte}
 use Rattle.plan_text.specs.declared.piece_reader.Mode.TheVariants.{Path, Value}
@@ -9,6 +9,7 @@ use Rattle.plan_text.specs.Pieces.{escape_bytes, pieces_of, literal_of}
 use Rattle.plan_text.specs.Path.{canonical_of, is_normal}
 use Rattle.plan_text.specs.Lines.{lines_of, raw_lines}
 use Rattle.plan_text.specs.declared.line_reader.Line.{Line}
+use Rattle.plan_text.specs.PathFilters.{HasBit, bit_of, hash_of, number_of, place_of, with_bit}
 
 parents_past_the_front : canonical_of (codes "a/../../b//./c/") ≡ Ok (codes "../b/c")
 parents_past_the_front = refl
@@ -176,3 +177,20 @@ parent_is_not_normal = refl
 -- lines that are continued and ended by CR LF
 lines_with_their_newlines : raw_lines (codes "a$" ++ 10 ∷ codes "b" ++ 13 ∷ 10 ∷ codes "c") ≡ record { at = 0; bytes = codes "a$" ++ 10 ∷ codes "b" } ∷ record { at = 6; bytes = codes "c" } ∷ []
 lines_with_their_newlines = refl
+
+-- the hash of a path is that of its last sixteen bytes and its length
+number_of_a_short_path : number_of (codes "a.o") ≡ 6368879
+unfolding number_of
+number_of_a_short_path = refl
+
+number_of_the_last_bytes : number_of (codes "include/generated/version.h") ≡ number_of (codes "rated/version.h") + 101 * 256 ^ 15
+unfolding number_of
+number_of_the_last_bytes = refl
+
+hash_of_a_short_path : hash_of (codes "a.o") ≡ 1364984548566109510
+unfolding hash_of number_of
+hash_of_a_short_path = refl
+
+added_path_is_found : HasBit (with_bit (0 ∷ 0 ∷ []) (hash_of (codes "a.o"))) (hash_of (codes "a.o"))
+unfolding hash_of number_of place_of bit_of
+added_path_is_found = refl

@@ -16,3 +16,4 @@ pub mod Laws
 pub mod Limits
 pub mod Numerals
 pub mod HashWords
+pub mod PathFilters

@@ -15,6 +15,7 @@
 //!   `RowList` are stored consecutively in one vector. The rows of `SharedRows` are parts of shared bytes.
 //! - `SmallText` and `PieceList` are a text and a list of pieces. They take no allocation if they are short.
 //!   Contracts see them as lists too.
+//! - `PathFilter` is a set of paths that may say too often that a path is in it, and never too seldom.
 //! - `feed_words` feeds a text to a hasher.
 //! - `Sink` is a target of writes, `Counted` wraps a writer of std as a sink, and `write_all` writes all bytes
 //!   to a sink. Each counts failures in a `GhostCounter`, which only proofs read.
@@ -27,6 +28,7 @@
 
 mod fault;
 mod ghost_counter;
+mod ghost_paths;
 mod hashing;
 mod items;
 mod laws;
@@ -35,6 +37,7 @@ mod line_reader;
 mod memory;
 mod numerals;
 mod path;
+mod path_filter;
 mod piece_list;
 mod piece_reader;
 mod row_list;
@@ -57,6 +60,7 @@ pub use line_reader::{
 pub use memory::Memory;
 pub use numerals::number_in;
 pub use path::{canonical, is_canonical};
+pub use path_filter::PathFilter;
 pub use piece_list::PieceList;
 pub use piece_reader::{Mode, Piece, escape_len, name_len, pieces, pieces_at};
 pub use row_list::RowList;
