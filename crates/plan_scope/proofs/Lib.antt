@@ -10,6 +10,7 @@ pub mod CompiledLemmas
 pub mod PathLemmas
 pub mod TextListLemmas
 pub mod EdgeRowLemmas
+pub mod ExtendingLemmas
 pub mod PathPartLemmas
 pub mod VariableLemmas
 pub mod ListLemmas
@@ -23,3 +24,4 @@ pub mod TreeLemmas
 pub mod EvaluatorLemmas
 pub mod CommandLemmas
 pub mod SoundLemmas
+pub mod ExtendedLemmas

@@ -14,7 +14,10 @@ use Rattle.plan_scope.specs.Trees.{TreeStatement}
 use Rattle.plan_scope.specs.Scopes.{Text, Bindings}
 use Rattle.plan_scope.specs.Expansion.{EdgeEnvironment, plain, quoted}
 use Rattle.plan_scope.specs.Compiled.{text_of_parts}
-use Rattle.plan_scope.specs.Edges.{manifest_of, commands_of}
+use Rattle.plan_scope.specs.declared.edge.addition.Addition.{Addition}
+use Rattle.plan_scope.specs.Edge.{Edge}
+use Rattle.plan_scope.specs.Edges.{Paths, manifest_of, commands_of}
+use Rattle.plan_scope.specs.Extended.{added, extended}
 use Rattle.plan_scope.specs.Loading.{LoadsFirst, MayLoad, whole_file, is_read, is_missing, is_refused, is_added, includes_file, ends, fresh_scope}
 
 abbrev lf : List ℕ
@@ -275,3 +278,31 @@ parts_by_block = refl
 
 parts_by_line : text_of_parts quoted (edge_in []) (part.InputsByLine ∷ []) ≡ codes "'a b'" ++ lf ++ codes "c"
 parts_by_line = refl
+
+-- === Additions ===
+
+abbrev edge_of_paths : Paths → Edge
+edge_of_paths paths = record { paths = paths; command = codes "c"; description = []; depfile = []; restat = true; generator = false; phony = false; pool = [] }
+
+-- build a | b: r d | e || f
+abbrev plain_edge : Edge
+plain_edge = edge_of_paths (record { outputs = codes "a" ∷ []; implicit_outputs = codes "b" ∷ []; inputs = codes "d" ∷ []; implicit_inputs = codes "e" ∷ []; order_only_inputs = codes "f" ∷ [] })
+
+abbrev order_only_addition : ℕ → Text → Addition
+order_only_addition n path = record { edge = n; outputs = []; inputs = []; order_only = path ∷ [] }
+
+-- build a | b o: r d | e i || f g
+edge_with_one_path_more_in_each_list : added (record { edge = 0; outputs = codes "o" ∷ []; inputs = codes "i" ∷ []; order_only = codes "g" ∷ [] }) plain_edge
+    ≡ edge_of_paths (record { outputs = codes "a" ∷ []; implicit_outputs = codes "b" ∷ codes "o" ∷ []; inputs = codes "d" ∷ []; implicit_inputs = codes "e" ∷ codes "i" ∷ []; order_only_inputs = codes "f" ∷ codes "g" ∷ [] })
+edge_with_one_path_more_in_each_list = refl
+
+-- Two additions to the second edge, and one without an edge.
+additions_to_the_second_edge : extended (order_only_addition 1 (codes "g") ∷ order_only_addition 1 (codes "h") ∷ order_only_addition 2 (codes "i") ∷ []) (record { edges = plain_edge ∷ plain_edge ∷ []; pools = []; defaults = [] })
+    ≡ record {
+      edges = plain_edge
+          ∷ edge_of_paths (record { outputs = codes "a" ∷ []; implicit_outputs = codes "b" ∷ []; inputs = codes "d" ∷ []; implicit_inputs = codes "e" ∷ []; order_only_inputs = codes "f" ∷ codes "g" ∷ codes "h" ∷ [] })
+          ∷ [];
+      pools = [];
+      defaults = [];
+    }
+additions_to_the_second_edge = refl

@@ -7,6 +7,8 @@ use Rattle.plan_scope.specs.Scopes.{Text}
 use Rattle.plan_scope.specs.Edges.{builds_of, manifest_of}
 use Rattle.plan_scope.specs.Loading.{FileContents, IsMissing, LoadsFirst, PathSet}
 use Rattle.plan_scope.specs.Sound.{IsSound, MakesSome}
+use Rattle.plan_scope.specs.declared.edge.addition.Addition.{Addition}
+use Rattle.plan_scope.specs.Extended.{AreSoundFor, RunTheSame, extended}
 
 -- If each build line of the statements has an output, their manifest is sound.
 abbrev pub ManifestsAreSound : Type 0
@@ -20,3 +22,11 @@ TreesAreWhole gives fails = (before now : ℕ) (path : Text) (statements : List 
 abbrev pub LoadedManifestsAreSound : (gives : FileContents) → (fails : PathSet) → Type 0
 LoadedManifestsAreSound gives fails =
     (before now : ℕ) (path : Text) (statements : List TreeStatement) (m : Manifest) → LoadsFirst gives (IsMissing gives fails before now) path (Ok statements) → manifest_of statements ≡ Ok m → IsSound m
+
+-- A sound manifest stays sound with additions of its outputs, or of paths that are canonical and of 1 to 4,096 bytes.
+abbrev pub ExtendedIsSound : Type 0
+ExtendedIsSound = (additions : List Addition) (m : Manifest) → IsSound m → AreSoundFor m additions → IsSound (extended additions m)
+
+-- A manifest with additions runs the same commands.
+abbrev pub ExtendedRunsTheSame : Type 0
+ExtendedRunsTheSame = (additions : List Addition) (m : Manifest) → RunTheSame (extended additions m) m

@@ -12,6 +12,7 @@ pub mod TextLists
 pub mod EdgeRows
 pub mod EdgeAnswers
 pub mod Sound
+pub mod Extended
 pub mod Laws
 pub mod Loading
 pub mod LoadingSteps

@@ -1,6 +1,6 @@
 //! Laws that hold for all manifests.
 
-ghost use Rattle.plan_scope.specs.Laws.{LoadedManifestsAreSound, ManifestsAreSound, TreesAreWhole};
+ghost use Rattle.plan_scope.specs.Laws.{ExtendedIsSound, ExtendedRunsTheSame, LoadedManifestsAreSound, ManifestsAreSound, TreesAreWhole};
 
 use crate::tree::source::Source;
 use plan_parse::statements_are_whole;
@@ -29,3 +29,15 @@ pub fn loaded_manifests_are_sound<S: Source>()
     trees_are_whole::<S>();
     manifests_are_sound();
 }
+
+/// Proves that a sound manifest stays sound if the paths that are added to its edges are outputs of its edges, or canonical
+/// and within their limit.
+pub fn extended_is_sound()
+    ensures { ExtendedIsSound }
+{}
+
+/// Proves that additions change neither the number of edges nor their commands: each edge differs at most in its implicit
+/// outputs and inputs and its order-only inputs.
+pub fn extended_runs_the_same()
+    ensures { ExtendedRunsTheSame }
+{}

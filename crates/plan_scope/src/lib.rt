@@ -8,10 +8,14 @@ mod manifest;
 mod scope;
 mod tree;
 
+pub use edge::addition::Addition;
 pub use edge::edge_list::{EdgeList, EdgePaths, EdgeRef};
 pub use edge::text_list::{EdgeText, write_text};
 pub use fault::{Cause, ScopeFault};
-pub use laws::{loaded_manifests_are_sound, manifests_are_sound, trees_are_whole};
+pub use laws::{
+    extended_is_sound, extended_runs_the_same, loaded_manifests_are_sound, manifests_are_sound,
+    trees_are_whole,
+};
 pub use manifest::commands::{WriteFault, write_commands};
 pub use manifest::evaluator::evaluate;
 pub use manifest::{DefaultTarget, Manifest, Pool};

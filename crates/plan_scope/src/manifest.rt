@@ -1,5 +1,6 @@
 //! Manifests: the evaluated form of a tree's statements.
 
+mod additions;
 pub(crate) mod commands;
 mod defaults;
 pub(crate) mod evaluator;

@@ -1,7 +1,7 @@
 //! Calls each public function of plan_scope on files and trees, as another crate would.
 
 use plan_scope::*;
-use plan_text::Counted;
+use plan_text::{Counted, RowList};
 use std::alloc::{AllocError, Global};
 use std::test::Fail;
 
@@ -513,4 +513,53 @@ fn numbers_of_causes(rt: HostRuntime) {
 fn numbers_of_faults(rt: HostRuntime) {
     assert_eq!(rt; ScopeFault::LoadMemory.number(), 22);
     assert_eq!(rt; ScopeFault::Memory.number(), 41);
+}
+
+/// Returns an addition to an edge, of an output, an input and an order-only input.
+fn addition_to(alloc: Global, edge: u32) -> Result<Addition, AllocError> {
+    let mut addition = Addition {
+        edge,
+        outputs: RowList::new(alloc),
+        inputs: RowList::new(alloc),
+        order_only: RowList::new(alloc),
+    };
+    addition.outputs.push(b"more_output")?;
+    addition.inputs.push(b"more_input")?;
+    addition.order_only.push(b"more_order_only")?;
+    Ok(addition)
+}
+
+/// Checks whether a list has these two paths.
+fn are_both(paths: &PathRange<'_>, first: &[u8], second: &[u8]) -> bool {
+    paths.len() == 2 && paths.path(0) == first && paths.path(1) == second
+}
+
+/// Checks whether each list of an edge that additions change has one path more.
+fn has_addition(edge: &EdgeRef<'_>) -> bool {
+    is_only(&edge.outputs(), b"a")
+        && are_both(&edge.implicit_outputs(), b"b", b"more_output")
+        && is_only(&edge.inputs(), b"d")
+        && are_both(&edge.implicit_inputs(), b"e", b"more_input")
+        && are_both(&edge.order_only_inputs(), b"f", b"more_order_only")
+}
+
+/// Adds to the first edge of a manifest, and to an edge that it doesn't have.
+fn extend(alloc: Global, manifest: &mut Manifest) -> Result<(), AllocError> {
+    manifest.extend(alloc, &addition_to(alloc, 0)?)?;
+    manifest.extend_all(alloc, &[addition_to(alloc, 2)?])
+}
+
+#[test]
+fn extended_edge(rt: HostRuntime) -> Result<(), Fail> {
+    let text = b"rule r\n  command = $in $out\nbuild a | b: r d | e || f\nbuild x: r y\n";
+    let Ok(mut manifest) = meaning(rt.alloc(), text) else {
+        panic!(rt; "no manifest");
+    };
+    extend(rt.alloc(), &mut manifest)?;
+    assert_eq!(rt; manifest.edges.len(), 2);
+    assert!(rt; has_addition(&manifest.edges.edge(0)));
+    assert!(rt; is_only(&manifest.edges.edge(1).outputs(), b"x"));
+    assert_eq!(rt; manifest.edges.edge(1).order_only_inputs().len(), 0);
+    assert!(rt; has_commands(rt.alloc(), &manifest, b"d a\ny x\n"));
+    Ok(())
 }

@@ -1,10 +1,13 @@
 //! The edges of a manifest, held in rows with their paths.
 
-ghost use Rattle.std.specs.Prelude.{◌≡◌, ◌<◌, Some, length, slice_get, [], IfOk};
+ghost use Rattle.std.specs.Prelude.{◌≡◌, ◌<◌, Some, length, slice_get, [], IfOk, OnErr, OnOk};
 ghost use Rattle.plan_scope.specs.EdgeRows.{AreWithin, edges_in};
+ghost use Rattle.plan_scope.specs.Extended.{added, changed_at};
 ghost use Rattle.plan_scope.specs.TextLists.{whole};
 ghost use Rattle.plan_scope.specs.EdgePlaces.{ArePlaced, paths_at};
 
+use crate::edge::addition::Addition;
+use crate::edge::extending::add_paths;
 use crate::edge::paths::PathRows;
 use crate::edge::text_list::{EdgeText, TextList, TextPool};
 use crate::scope::path_range::PathRange;
@@ -59,6 +62,19 @@ impl EdgeList {
             texts: &self.rows.texts,
             marks,
         }
+    }
+
+    /// Adds paths to the edge with the addition's number, if there is one. The paths that the edge has are copied, so that
+    /// they and the new ones follow one another.
+    ///
+    /// # Errors
+    ///
+    /// `AllocError` if memory runs out, or if all edges then had more than 4,294,967,295 paths. The edges stay as they are.
+    pub fn extend(&mut self, alloc: Global, addition: &Addition) -> Result<(), AllocError>
+        ensures added { OnOk result (self.new ≡ changed_at addition.now.edge (added addition.now) self.old) }
+        ensures same { OnErr result (self.new ≡ self.old) }
+    {
+        add_paths(alloc, &mut self.rows, addition)
     }
 }
 
