@@ -66,6 +66,10 @@ impl<R: Wait, W: World> World for DryWorld<'_, R, W> {
         self.world.recall(number, output)
     }
 
+    fn forget(&self, output: &[u8]) -> Result<(), AllocError> {
+        self.world.forget(output)
+    }
+
     fn explain(&self, edge: &[u8], reason: &[u8]) {
         self.world.explain(edge, reason);
     }

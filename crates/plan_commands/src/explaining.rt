@@ -350,6 +350,10 @@ impl<W: World> World for Explained<'_, W> {
         self.world.recall(number, output)
     }
 
+    fn forget(&self, output: &[u8]) -> Result<(), AllocError> {
+        self.world.forget(output)
+    }
+
     fn explain(&self, edge: &[u8], reason: &[u8]) {
         self.world.explain(edge, reason);
     }

@@ -55,6 +55,15 @@ pub trait World {
     fn recall(&self, number: u64, output: &[u8]) -> Result<Reply, AllocError>
         ensures { IfOk result (λ r. Self.allows number (Recall output.now) r) };
 
+    /// Ends the entry of an output for this build: its edge is out of date until its command has begun again. The record
+    /// stays as it is. A world without a record does nothing.
+    ///
+    /// # Errors
+    /// `AllocError` if memory runs out. The entry may not have ended then.
+    fn forget(&self, _output: &[u8]) -> Result<(), AllocError> {
+        Ok(())
+    }
+
     /// Shows the reason why the command of an edge is going to run. Called before `run`. `edge` is the first output of
     /// the edge. A world that shows no reasons does nothing.
     fn explain(&self, _edge: &[u8], _reason: &[u8]) {}

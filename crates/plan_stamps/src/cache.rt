@@ -195,6 +195,10 @@ impl<R: Wait, W: World> World for StampCache<'_, R, W> {
         self.inner.world.recall(number, output)
     }
 
+    fn forget(&self, output: &[u8]) -> Result<(), AllocError> {
+        self.inner.world.forget(output)
+    }
+
     fn explain(&self, edge: &[u8], reason: &[u8]) {
         self.inner.world.explain(edge, reason);
     }
