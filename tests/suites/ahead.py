@@ -21,7 +21,7 @@ import time
 from collections.abc import Iterator, Sequence
 from typing import Callable, List, NamedTuple, Optional, Set, Tuple
 
-from lib import programs, records
+from lib import locks, programs, records
 from lib.place import Place, expect
 from lib.suite import Case, Setting, alive, check, until
 
@@ -37,7 +37,7 @@ NO_RULE = "missing and no known rule to make it\n"
 UNREADABLE = f"plan_ninja: can't open the record {RECORD}: is a directory\n"
 REFUSED_RECORD = f"ninja: error: can't read or write {RECORD} [133 FileFault]\n"
 LACKS_RECORD = "[1/1] build.ninja\nFAILED: [record fault] build.ninja \ncp template build.ninja\n"
-WAITING = f"plan_ninja: waiting for another build that uses {RECORD}\n"
+WAITING = f"plan_ninja: waiting for another build that uses {RECORD} (process {{}})\n"
 LOST_OUTPUT = "ninja: error: standard output can't be written [133 FileFault]\n"
 # The lines of commands that ran, and the line that counts edges that didn't run after a failure.
 LINES = re.compile(r"\[\d+/\d+\] .*\n|\d+ skipped\n|\d+ not started\n|\d+ skipped, \d+ not started\n")
@@ -312,10 +312,10 @@ def record_lost_while_waiting(place: Place, jobs: str) -> None:
     """
     touched(place.folder, header(0))
     record, aside = place.folder / RECORD, place.folder / "aside"
-    with locked(place.folder / f"{RECORD}.lock"):
+    with locks.held(place.folder / f"{RECORD}.lock") as holder:
         child = place.started("-j", jobs)
         assert child.stdout
-        expect("first line", WAITING, child.stdout.readline().decode())
+        expect("first line", WAITING.format(holder), child.stdout.readline().decode())
         record.rename(aside)
         record.mkdir()
     said = child.communicate(timeout=programs.SECONDS)[0].decode()

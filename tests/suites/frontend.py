@@ -24,7 +24,7 @@ from lib.suite import PATIENCE, Case, LeftOut, Setting, until
 ALONE = True
 NO_WORK = "ninja: no work to do.\n"
 STOPPED = "ninja: build stopped: subcommand failed.\n"
-WAITING = b"plan_ninja: waiting for another build that uses .plan_record\n"
+WAITING = "plan_ninja: waiting for another build that uses .plan_record (process {})\n"
 DROP_A_CAPABILITY, OVERRIDE, READ_AND_SEARCH = 24, 1, 2  # of prctl(2) and capabilities(7)
 
 # ---- words
@@ -660,7 +660,7 @@ def ctrl_z(place: Place) -> None:
 
 
 def killed(place: Place) -> None:
-    """A command that runs goes on to its end, as with ninja; no other is started, and it runs again the next time."""
+    """A command that runs is stopped, no other is started, and it runs again the next time."""
     for number in (signal.SIGKILL, *CAUGHT):
         for path in place.folder.iterdir():
             path.unlink()
@@ -669,9 +669,9 @@ def killed(place: Place) -> None:
         place.begun("a")
         child.send_signal(number)
         expect("status", -number, child.wait(PATIENCE))
-        (place.folder / "go").touch()
         until(lambda: not group_of(child.pid), "the command doesn't end in time")
-        expect("a and b are made", (True, False), (place.has("a"), place.has("b")))
+        expect("a and b are made", (False, False), (place.has("a"), place.has("b")))
+        (place.folder / "go").touch()
         expect("next", ("[1/2] a\n[2/2] b\n", "", 0), says(place))
 
 
@@ -704,7 +704,7 @@ def second_build_waits(place: Place) -> None:
     expect("is over before the first", None, second.poll())
     (place.folder / "go").touch()
     expect("first", b"[1/1] a\n", first.communicate(timeout=PATIENCE)[0])
-    expect("second", WAITING + NO_WORK.encode(), second.communicate(timeout=PATIENCE)[0])
+    expect("second", (WAITING.format(first.pid) + NO_WORK).encode(), second.communicate(timeout=PATIENCE)[0])
     expect("statuses", (0, 0), (first.returncode, second.returncode))
 
 

@@ -8,6 +8,7 @@ import functools
 import os
 import pathlib
 import re
+import time
 from collections.abc import Iterator
 from typing import Callable, Dict, NamedTuple, Tuple
 
@@ -18,7 +19,7 @@ from suites.progress import Edge, on_terminal, says, write
 
 ALONE = True
 BEGIN = 1_600_000_000
-NEWER = 4_000_000_000 - BEGIN  # later than everything that commands make
+PAUSE = 0.02  # seconds after which a file that is changed is later than what commands made
 EXPLAIN = ("-d", "explain")
 # A copy of `in` that reads the header `h` too, as a depfile says.
 COPY = Edge("a", "cat in h > $out && echo '$out: h' > d", "in", "  depfile = d\n")
@@ -39,6 +40,14 @@ class Change(NamedTuple):
 def stamp(name: str, seconds: int) -> Callable[[pathlib.Path], None]:
     """Sets the stamp of a file, in seconds after the stamps of the files of a new tree."""
     return lambda folder: os.utime(folder / name, (BEGIN + seconds, BEGIN + seconds))
+
+
+def touched(name: str) -> Callable[[pathlib.Path], None]:
+    """Gives a file the stamp of now, which is later than those of everything that commands made."""
+    def touch(folder: pathlib.Path) -> None:
+        time.sleep(PAUSE)
+        os.utime(folder / name)
+    return touch
 
 
 def removes(*names: str) -> Callable[[pathlib.Path], None]:
@@ -63,9 +72,9 @@ CHANGES = {
     "another command of a generator": Change((SELF,), other_command, {}),
     "header missing": Change((Edge("a", "echo '$out: h' > d; touch $out", "in", "  depfile = d\n"),), removes("h"),
                              {"a": "input h doesn't exist"}, False),
-    "source newer": Change((COPY, LINK), stamp("in", NEWER),
-                           {"a": "input in is newer than output a", "b": "input a was changed in this build"}, False),
-    "header newer": Change((COPY,), stamp("h", NEWER), {"a": "input h is newer than output a"}, False),
+    "source newer": Change((COPY, LINK), touched("in"),
+                           {"a": "input in is newer than output a", "b": "input a was changed in this build"}),
+    "header newer": Change((COPY,), touched("h"), {"a": "input h is newer than output a"}),
     "older file replaced": Change((COPY,), stamp("in", 10), {"a": "input in is newer than what the last build read"}),
     "output of a restat edge kept": Change((KEPT, LINK), stamp("in", 10),
                                            {"a": "input in is newer than what the last build read"}),

@@ -1,11 +1,12 @@
 """Runs several builders of one record: nested, one after the other, and at once, some of them killed.
 
-Records that have grown are compacted as a builder opens them, also next to a nested builder whose own builder was
-killed: that one then keeps nothing more. A builder that is killed meanwhile leaves the old record or the new one. In a
-folder that may not be written a build with nothing to do ends well.
+Records that have grown are compacted as a builder opens them, also next to a nested builder that lost the lock of its
+own builder, which was killed: that one then keeps nothing more. A builder that is killed meanwhile leaves the old
+record or the new one. In a folder that may not be written a build with nothing to do ends well.
 
 A nested builder, which a command of another one starts, must not wait for it; what it began and what it kept must count
-in the next build. A builder that nobody's command started must wait, and say so. In the rounds, two or three builders
+in the next build. A builder that nobody's command started must wait, and say so, also for a command of a builder that
+was killed; the suite `stopped` has more of these. In the rounds, two or three builders
 run at once, as waiting ones or as nested ones, and some are killed at random moments: the next build must then make
 everything right, and the one after it must have nothing to do. The case `rounds` plays 200 of them.
 """
@@ -16,18 +17,21 @@ import functools
 import os
 import pathlib
 import random
+import re
 import signal
 import subprocess
 import time
 from typing import Callable, Dict, Iterator, List, Optional
 
-from lib import programs, records
+from lib import locks, programs, records
 from lib.suite import PATIENCE, Case, LeftOut, Setting, Wrong, alive, check, until
 
 ALONE = True
 ROUNDS = 200
 VARIABLE = "PLAN_NINJA_RECORDS"
-WAITS = b"plan_ninja: waiting for another build that uses .plan_record\n"
+WAITS = re.compile(rb"plan_ninja: waiting for another build that uses \.plan_record \(process \d+\)\n")
+WAITS_FOR_COMMANDS = re.compile(
+    rb"plan_ninja: waiting for commands of a build that was stopped and used \.plan_record \(process(es)? [\d, ]+\)\n")
 Child = subprocess.Popen  # of bytes
 
 
@@ -78,10 +82,11 @@ class Tree:
         check((ran.returncode, found, ran.stderr) == (status, sorted(lines), b""),
               f"it ended with {ran.returncode}, printed {found}, and said {ran.stderr!r}")
 
-    def lock(self) -> str:
-        """Returns the name of the record's lock."""
-        found = os.stat(self.folder / ".plan_record.lock")
-        return f"{found.st_dev}:{found.st_ino}"
+    def name(self, child: Child) -> str:
+        """Returns the name that the commands of a builder have in their environment, or nothing if it has ended."""
+        with contextlib.suppress(OSError):
+            return locks.name_of(self.folder / ".plan_record.lock", child.pid)
+        return ""
 
     def text(self, name: str) -> str:
         return (self.folder / name).read_text()
@@ -165,7 +170,8 @@ def second_builder_waits(program: str, folder: pathlib.Path) -> None:
     (folder / "go").touch()
     check(ended(first) == b"", "the first builder said something")
     printed, said = second.communicate(timeout=PATIENCE)
-    check((second.returncode, printed, said) == (0, b"", WAITS), f"{second.returncode}, {printed!r}, {said!r}")
+    check((second.returncode, printed) == (0, b"") and WAITS.fullmatch(said),
+          f"{second.returncode}, {printed!r}, {said!r}")
 
 
 def short_wait_is_silent(program: str, folder: pathlib.Path) -> None:
@@ -179,15 +185,22 @@ def short_wait_is_silent(program: str, folder: pathlib.Path) -> None:
     check(ended(first) + ended(second) == b"", "a builder said something")
 
 
-def killed_builder_is_not_waited_for(program: str, folder: pathlib.Path) -> None:
-    """The lock of a killed builder is free, also while its command goes on."""
+def command_of_a_killed_builder_is_waited_for(program: str, folder: pathlib.Path) -> None:
+    """A builder waits for the command of a killed builder, says so, and runs the command again."""
     tree = Tree(program, folder, GATED, {"in": "text\n"})
     first = tree.start()
     until((folder / "begun").exists, "the command doesn't begin")
     first.kill()
-    first.communicate(timeout=PATIENCE)
+    second = tree.start()
+    assert second.stderr
+    said = second.stderr.readline()
+    check(WAITS_FOR_COMMANDS.fullmatch(said), f"it said {said!r}")
+    check(second.poll() is None, "the second builder didn't wait")
+    (folder / "in").write_text("changed\n")
     (folder / "go").touch()
-    tree.builds(0, ["[1/1] touch begun; while ! [ -e go ]; do sleep 0.02; done; cat in > out"])
+    check(ended(second) == b"", "it said more")
+    check(tree.text("out") == "changed\n", f"the output is {tree.text('out')!r}")
+    tree.builds(0, [])
 
 
 def other_records_are_free(program: str, folder: pathlib.Path) -> None:
@@ -245,7 +258,7 @@ def compacted_before_a_nested_builder(program: str, folder: pathlib.Path) -> Non
 ORPHAN = """rule gate
   command = touch begun; while ! [ -e go ]; do sleep 0.02; done; cat in > $out
 rule nested
-  command = {program} run plan.img inner > log 2> said; touch end
+  command = exec < /dev/null; {program} run plan.img inner > log 2> said; touch end
 rule copy
   command = cat in > $out
 build inner: gate in
@@ -257,7 +270,8 @@ build side: copy in
 def compacted_next_to_a_nested_builder(program: str, folder: pathlib.Path) -> None:
     """A nested builder goes on after its own was killed, and another builder compacts the record.
 
-    What the nested builder has begun is in the new record, and it keeps nothing more. So its command runs again.
+    Its standard input is another file, so it doesn't hold the lock. What the nested builder has begun is in the new
+    record, and it keeps nothing more. So its command runs again.
     """
     tree = Tree(program, folder, ORPHAN.format(program=program), {"in": "text\n"})
     first = tree.start("outer")
@@ -389,12 +403,12 @@ class Rounds:
     def started(self) -> List[Child]:
         """Starts two or three builders. Each but the first may be one that doesn't wait for the others."""
         found = [self.tree.start("-j", "4")]
-        lock: Optional[str] = None
+        above: Optional[str] = None
         for _ in range(self.chance.randint(1, 2)):
             if self.chance.random() < 0.7:
                 until((self.tree.folder / ".plan_record.lock").exists, "no lock")
-                lock = self.tree.lock()
-            found.append(self.tree.start("-j", "4", above=lock or ""))
+                above = self.tree.name(found[0])
+            found.append(self.tree.start("-j", "4", above=above or ""))
         return found
 
     def kill(self, children: List[Child]) -> None:
@@ -416,7 +430,8 @@ class Rounds:
             said = child.communicate(timeout=PATIENCE)[1]
             if child.returncode != 1 or child is children[0] or not is_of_lost_record(said):
                 check(child.returncode in (0, -signal.SIGKILL), f"a builder ended with {child.returncode}: {said!r}")
-                check(said in (b"", WAITS), f"a builder said {said!r}")
+                told = WAITS.fullmatch(said) or WAITS_FOR_COMMANDS.fullmatch(said)
+                check(told or not said, f"a builder said {said!r}")
             until(lambda child=child: not alive(child.pid), "a command of a killed builder doesn't end")
         STARTED.clear()
         self.settle()
@@ -442,7 +457,7 @@ def rounds(program: str, count: int, seed: int, folder: pathlib.Path) -> None:
 
 
 TRIALS = (nested_failure, entries_of_both_survive, second_builder_waits, short_wait_is_silent,
-          killed_builder_is_not_waited_for, other_records_are_free, grown_record_is_compacted,
+          command_of_a_killed_builder_is_waited_for, other_records_are_free, grown_record_is_compacted,
           compacted_before_a_nested_builder, compacted_next_to_a_nested_builder, killed_while_compacting,
           read_only_folder)
 

@@ -4,7 +4,6 @@ If ninja is installed, it gets the same words on the same files, and must answer
 """
 from __future__ import annotations
 
-import fcntl
 import functools
 import os
 import pathlib
@@ -16,7 +15,7 @@ import time
 from collections.abc import Callable, Iterator
 from typing import NamedTuple
 
-from lib import programs
+from lib import locks, programs
 from lib.place import Place, expect
 from lib.suite import PATIENCE, Case, LeftOut, Setting
 
@@ -506,8 +505,7 @@ def grown_record_is_rewritten(place: Place) -> None:
 
 def recompact_waits_for_the_lock(place: Place) -> None:
     path = record(place)
-    with open(f"{path}.lock", "ab") as file:
-        fcntl.flock(file, fcntl.LOCK_EX)
+    with locks.held(path.with_name(f"{path.name}.lock")):
         child = place.started("-t", "recompact")
         time.sleep(0.5)
         expect("is over before the lock is free", None, child.poll())
@@ -522,10 +520,9 @@ def recompact_waits_for_the_lock(place: Place) -> None:
 def record_held_above_stays(place: Place) -> None:
     """Below a builder that holds the lock, the record stays as it is."""
     path = record(place)
-    lock = path.with_name(".plan_record.lock")
-    with open(lock, "ab") as file:
-        fcntl.flock(file, fcntl.LOCK_EX)
-        place.environment["PLAN_NINJA_RECORDS"] = f"1:2 {lock.stat().st_dev}:{lock.stat().st_ino}"
+    lock = path.with_name(f"{path.name}.lock")
+    with locks.held(lock) as holder:
+        place.environment["PLAN_NINJA_RECORDS"] = f"1:2:3:4 {locks.name_of(lock, holder)}"
         expect("said", ("", "", 0), says(place, "-t", "recompact"))
     expect("record", OLD, path.read_bytes())
 

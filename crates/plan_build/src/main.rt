@@ -13,6 +13,7 @@ mod shells;
 mod stopping;
 mod template;
 mod watched_screen;
+mod watcher;
 mod words;
 
 use crate::ahead::RecordedWorld;
@@ -23,6 +24,7 @@ use crate::shells::{BuildShells, is_smart_terminal, shares_terminal, wants_escap
 use crate::stopping::{stop_at, warn};
 use crate::template::read_template;
 use crate::watched_screen::WriteWatcher;
+use crate::watcher::{STOP_COMMANDS, Watcher, stop_commands};
 use crate::words::{
     MANIFEST, RECORD, after_name, is_quiet, manifest_in, manner_in, name_in, words_in,
 };
@@ -124,7 +126,7 @@ fn missing<R: Files>(rt: &R, manifest: &[u8]) -> Option<ErrorKind> {
 type SystemWorld<'a> = RealWorld<HostRuntime, BuildShells<'a, HostRuntime>>;
 
 /// Opens the world of real files and commands, with the record in the folder of the build. If the manifest is missing,
-/// no record is created. The outputs of commands are held in `outputs`.
+/// no record is created. The outputs of commands are held in `outputs`. `watcher` stops them if this builder ends early.
 ///
 /// # Errors
 /// The exit status if the world can't be opened. The reason is reported on standard error.
@@ -133,6 +135,7 @@ fn open_world<'a, E: Print>(
     errors: &E,
     line: &CommandLine,
     outputs: &'a HeldOutputs<'a, HostRuntime>,
+    watcher: &'a Watcher,
 ) -> Result<SystemWorld<'a>, u8> {
     let alloc = rt.alloc();
     let manifest = manifest_in(line);
@@ -150,8 +153,9 @@ fn open_world<'a, E: Print>(
         outputs,
         wants_escapes(rt),
         shares_terminal(rt),
+        watcher,
     );
-    match RealWorld::open(own, shells, RECORD) {
+    match RealWorld::open_stricter(own, shells, RECORD) {
         Ok(world) => Ok(world),
         Err(fault) => Err(refuse_record(rt, errors, manifest, fault)),
     }
@@ -346,7 +350,25 @@ fn build<
     }
 }
 
+/// Stops the commands of a builder that ended early, if the command line asks for that. Only this program itself starts
+/// such a process. Returns whether it did.
+fn has_stopped_commands(rt: &HostRuntime) -> bool {
+    match words_in(rt) {
+        Ok(words) => match words.as_slice() {
+            [_, word, name] if word.as_str() == STOP_COMMANDS => {
+                stop_commands(rt, name.as_str());
+                true
+            }
+            _ => false,
+        },
+        Err(_) => false,
+    }
+}
+
 fn main(rt: HostRuntime) -> ExitCode {
+    if has_stopped_commands(&rt) {
+        return ExitCode::from(0);
+    }
     let errors = rt.stderr();
     let Ok(_streams) = open_streams(&rt) else {
         complain(
@@ -366,7 +388,8 @@ fn main(rt: HostRuntime) -> ExitCode {
         Err(status) => return ExitCode::from(status),
     };
     let outputs = HeldOutputs::new(rt.alloc(), &rt);
-    let world = match open_world(&rt, &errors, &line, &outputs) {
+    let watcher = Watcher::new();
+    let world = match open_world(&rt, &errors, &line, &outputs, &watcher) {
         Ok(world) => world,
         Err(status) => return ExitCode::from(status),
     };
@@ -387,6 +410,8 @@ fn main(rt: HostRuntime) -> ExitCode {
         world.inner().parker(),
     );
     let status = build(&builder, &line, jobs, is_long);
+    watcher.end(&rt);
+    world.inner().release();
     // The system frees its memory sooner than this program would.
     forget(world);
     ExitCode::from(status)

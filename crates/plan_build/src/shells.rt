@@ -1,6 +1,7 @@
 //! The shells of a build, and how the outputs of their commands are shown.
 
 use crate::held_outputs::HeldOutputs;
+use crate::watcher::Watcher;
 use plan_output::{shown_output, signal_line};
 use plan_printing::concatenate;
 use plan_world::{Printed, Shells, SystemShells};
@@ -22,17 +23,20 @@ pub struct BuildShells<'a, R> {
     escapes: bool,
     /// Whether standard output and standard error are the same kind of terminal, on which lines are written over.
     clears: bool,
+    /// Stops commands if this builder ends early.
+    watcher: &'a Watcher,
 }
 
 impl<'a, R> BuildShells<'a, R> {
     /// Creates the shells of a runtime. The outputs of commands go into `outputs`. If `escapes` is false, removes
-    /// escape sequences.
+    /// escape sequences. `watcher` begins with the first command.
     pub fn new(
         alloc: Global,
         rt: R,
         outputs: &'a HeldOutputs<'a, R>,
         escapes: bool,
         clears: bool,
+        watcher: &'a Watcher,
     ) -> BuildShells<'a, R> {
         BuildShells {
             alloc,
@@ -40,6 +44,7 @@ impl<'a, R> BuildShells<'a, R> {
             outputs,
             escapes,
             clears,
+            watcher,
         }
     }
 }
@@ -70,7 +75,7 @@ fn explanation(
     )
 }
 
-impl<R: Processes + Files + Wait + Clock + Eprint> Shells for BuildShells<'_, R> {
+impl<R: Processes + Files + Wait + Clock + Eprint + AllocGlobal> Shells for BuildShells<'_, R> {
     ghost ended = { λ _ _. Unit {0} };
 
     fn explain(&self, edge: &[u8], reason: &[u8]) {
@@ -84,6 +89,7 @@ impl<R: Processes + Files + Wait + Clock + Eprint> Shells for BuildShells<'_, R>
     }
 
     fn output(&self, shell: Command, edge: &[u8]) -> io::Result<Printed> {
+        self.watcher.begin(self.shells.runtime(), &shell);
         let Printed { status, text } = self.shells.output(shell, edge)?;
         let mut text = shown_output(self.alloc, text, self.escapes)?;
         add_signal(&mut text, &status)?;
@@ -100,6 +106,7 @@ impl<R: Processes + Files + Wait + Clock + Eprint> Shells for BuildShells<'_, R>
     }
 
     fn status(&self, shell: Command) -> io::Result<ExitStatus> {
+        self.watcher.begin(self.shells.runtime(), &shell);
         self.shells.status(shell)
     }
 }

@@ -244,6 +244,7 @@ fn main(rt: HostRuntime) -> ExitCode {
                     || run_image(&rt, &asked, &world, world.screen(), world.parker()),
                 );
                 advise(&rt, asked.image, &done);
+                world.release();
                 // The system frees its memory sooner than this program would.
                 forget(world);
                 match read {

@@ -11,21 +11,27 @@ use Rattle.plan_machine.specs.declared.event.reply.Reply.TheVariants.{Bytes, Fau
 use Rattle.plan_world.specs.Answers.{IsAnswer, IsByShell, MayAnswer, NamesAskable}
 use Rattle.plan_world.specs.Askable.{IsRecalled, RecallsAs}
 use Rattle.plan_world.specs.Depfiles.{IsDepfileOf, IsFrontOf, longest}
-use Rattle.plan_world.specs.Shells.{AreTexts, IsShellOf, ending}
+use Rattle.plan_world.specs.Shells.{AreTexts, HasRun, IsShellOf, ending}
 
 -- what was gathered is a depfile
 pub gathered_depfile : (old new : Option (List ℕ)) (bytes : List ℕ) (r : Reply) → r ≡ Bytes bytes → IsFrontOf 16777217 bytes old new → IsDepfileOf old new r
 unfolding longest
 gathered_depfile old new bytes r same h = subst (λ (x : Reply). IsDepfileOf old new x) (sym same) h
 
+-- a shell that was given this text has run it
+pub has_run : {E : Type 0} (ended : Command Global → Option ℤ → Type 0) (shell : Command Global) (text records : List ℕ) (run : Result (Option ℤ) E)
+    → IsShellOf shell text records → IfOk run (λ code. ended shell code) → IfOk run (λ code. HasRun ended text code)
+has_run ended shell text records (Ok code) is ran = (shell, records, is, ran)
+has_run ended shell text records (Err e) is ran = tt
+
 -- what is replied of a shell that was given just this command
-pub by_shell : {E F : Type 0} (ended : Command Global → Option ℤ → Type 0) (shell : Command Global) (command records : List ℕ) (run : Result (Option ℤ) E) (told : Result Reply F)
-    → IsShellOf shell command records → IfOk run (λ code. ended shell code) → IfOk run (λ code. told ≡ Ok (ending code)) → IfErr run (λ _. IfOk told (λ r. r ≡ NotStarted))
+pub by_shell : {E F : Type 0} (ended : Command Global → Option ℤ → Type 0) (command : List ℕ) (run : Result (Option ℤ) E) (told : Result Reply F)
+    → IfOk run (λ code. HasRun ended command code) → IfOk run (λ code. told ≡ Ok (ending code)) → IfErr run (λ _. IfOk told (λ r. r ≡ NotStarted))
     → IfOk told (λ r. IsByShell ended command r)
-by_shell {F = F} ended shell command records (Ok code) told is ran replied not =
-    subst (λ (x : Result Reply F). IfOk x (λ r. IsByShell ended command r)) (sym replied) (inr (shell, records, code, is, ran, refl))
-by_shell ended shell command records (Err e) (Ok r) is ran replied not = inl not
-by_shell ended shell command records (Err e) (Err f) is ran replied not = tt
+by_shell {F = F} ended command (Ok code) told ran replied not =
+    subst (λ (x : Result Reply F). IfOk x (λ r. IsByShell ended command r)) (sym replied) (inr (ran.0, ran.1, code, ran.2, ran.3, refl))
+by_shell ended command (Err e) (Ok r) ran replied not = inl not
+by_shell ended command (Err e) (Err f) ran replied not = tt
 
 -- ---- the rule of the world
 

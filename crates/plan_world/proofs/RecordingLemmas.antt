@@ -3,6 +3,9 @@ use Rattle.std.proofs.Common.{◌≡◌, refl, ◌+◌, ℕ, Bool, true, false, 
 use Rattle.std.specs.List.{flat_map}
 use Rattle.std.proofs.lemmas.List.{flat_map_more}
 use Rattle.std.proofs.lemmas.Slice.Eq.{bytes_eq-Decides}
+use Rattle.std.specs.Io.KnownBytes.{Appends}
+use Rattle.plan_world.specs.Recording.{Begins, Grows, Recording, may_begin}
+use Rattle.plan_world.specs.StartRecorded.{started}
 use Rattle.plan_record.specs.Entries.{EntryData, IsGoodFront, last_of, or_later, spelling}
 
 -- one entry more makes the front longer by its spelling
@@ -27,3 +30,23 @@ last_is_of output (x ∷ xs) = later_of output x (bytes_eq x.output output) (las
 
 pub found_is_of : (output : List ℕ) (xs : List EntryData) (found : Option EntryData) → found ≡ last_of output xs → IfSome found (λ e. e.output ≡ output)
 found_is_of output xs found same = subst (λ (e : Option EntryData). IfSome e (λ y. y.output ≡ output)) (sym same) (last_is_of output xs)
+
+-- ---- whether a file is a record
+
+-- a file that was read is a record, if its bytes begin like one or it has an entry
+pub is_record : (remaining : Option (List ℕ)) (bytes : List ℕ) (good : ℕ) (begins : Bool) → IfSome remaining (λ all. bytes ≡ all) → begins ≡ may_begin bytes → (good ≡ 0 → begins ≡ true)
+    → IfSome remaining (λ all. good ≡ 0 → may_begin all ≡ true)
+is_record None bytes good begins same tells holds = tt
+is_record (Some all) bytes good begins same tells holds = λ none. subst (λ (b : List ℕ). may_begin b ≡ true) same (sym tells ∙ holds none)
+
+-- ---- the start entries of an edge
+
+-- start entries that were appended to the entries of other builders
+pub begins_after : {F : Type 0} (contents : F → Option (List ℕ)) (old mid new : Recording F) (outputs : List (List ℕ)) (made : List EntryData) → Grows old.entries mid.entries
+    → made ≡ started mid.entries outputs → new.entries ≡ mid.entries ++ made → Appends (contents mid.file) (contents new.file) (flat_map spelling made) → Begins contents old new outputs
+begins_after contents old mid new outputs made grows same kept written = record {
+  read = mid.entries;
+  grows = grows;
+  entries = kept ∙ ap (λ (e : List EntryData). mid.entries ++ e) same;
+  written = (mid.file, subst (λ (e : List EntryData). Appends (contents mid.file) (contents new.file) (flat_map spelling e)) same written);
+}

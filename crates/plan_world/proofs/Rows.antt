@@ -9,8 +9,8 @@ use Rattle.plan_verify.specs.Turn.{Stat, Run, Keep}
 use Rattle.plan_machine.specs.Step.{answer_of}
 use Rattle.plan_machine.specs.declared.event.reply.Reply.TheVariants.{Stamp, Exit, Signal, Kept}
 use Rattle.plan_world.specs.Askable.{is_name}
-use Rattle.plan_world.specs.StartRecorded.{begun, missing_path}
-use Rattle.plan_world.specs.Recording.{EndsWith, edge_entry}
+use Rattle.plan_world.specs.StartRecorded.{begun, begun_with, missing_path, started}
+use Rattle.plan_world.specs.Recording.{EndsWith, edge_entry, may_begin}
 use Rattle.plan_world.specs.Rewriting.{restated}
 use Rattle.plan_world.specs.Shells.{ending, record_variable}
 use Rattle.plan_world.specs.Stamps.{stamp_of}
@@ -82,3 +82,42 @@ no_output_named = refl
 
 begun_stays : restated [] (9 ∷ []) (begun (97 ∷ []) ∷ []) ≡ begun (97 ∷ []) ∷ []
 begun_stays = refl
+
+-- ---- the first bytes of a record
+
+empty_may_begin : may_begin [] ≡ true
+empty_may_begin = refl
+
+-- `int ma`
+text_is_no_record : may_begin (105 ∷ 110 ∷ 116 ∷ 32 ∷ 109 ∷ 97 ∷ []) ≡ false
+text_is_no_record = refl
+
+letter_is_no_record : may_begin (105 ∷ []) ≡ false
+letter_is_no_record = refl
+
+torn_length_may_begin : may_begin (0 ∷ 0 ∷ 0 ∷ []) ≡ true
+torn_length_may_begin = refl
+
+-- the longest path of an output, and one byte more
+longest_output_may_begin : may_begin (0 ∷ 1 ∷ 2 ∷ 3 ∷ 16 ∷ 0 ∷ 97 ∷ []) ≡ true
+longest_output_may_begin = refl
+
+output_too_long : may_begin (0 ∷ 1 ∷ 2 ∷ 3 ∷ 16 ∷ 1 ∷ 97 ∷ []) ≡ false
+output_too_long = refl
+
+no_output_is_no_record : may_begin (0 ∷ 1 ∷ 2 ∷ 3 ∷ 0 ∷ 0 ∷ []) ≡ false
+no_output_is_no_record = refl
+
+-- ---- the start entries of an edge
+
+-- the edge that makes `p` and `q`, if neither was made before
+begins_twice : started [] ((112 ∷ []) ∷ (113 ∷ []) ∷ []) ≡ begun_with (112 ∷ []) (113 ∷ []) ∷ begun (112 ∷ []) ∷ []
+begins_twice = refl
+
+-- an edge that makes `q`, which the edge of `p` made before: its entry ends
+other_edge_ends : started (begun_with (112 ∷ []) (113 ∷ []) ∷ begun (112 ∷ []) ∷ edge_entry (112 ∷ []) (116 ∷ []) 7 [] ∷ []) ((113 ∷ []) ∷ []) ≡ begun (112 ∷ []) ∷ begun (113 ∷ []) ∷ []
+other_edge_ends = refl
+
+-- the edge of `p` again
+same_edge_begins : started (begun_with (112 ∷ []) (113 ∷ []) ∷ edge_entry (112 ∷ []) (116 ∷ []) 7 [] ∷ []) ((112 ∷ []) ∷ (113 ∷ []) ∷ []) ≡ begun_with (112 ∷ []) (113 ∷ []) ∷ begun (112 ∷ []) ∷ []
+same_edge_begins = refl

@@ -1,8 +1,9 @@
 -- The state of the record's file while it is open.
-use Rattle.std.specs.Prelude.{◌≡◌, ℕ, Bool, List, [], ◌∷◌, ◌++◌, length, Option}
+use Rattle.std.specs.Prelude.{◌≡◌, ◌==◌, ◌&&◌, ◌||◌, get_or, ◌+◌, ◌*◌, nat_le, nat_lt, ℕ, Bool, List, [], ◌∷◌, ◌++◌, length, Option}
 use Rattle.std.specs.Io.KnownBytes.{Appends}
 use Rattle.std.specs.List.{flat_map}
 use Rattle.plan_record.specs.Entries.{EntryData, IsGoodFront, spelling}
+use Rattle.plan_world.specs.StartRecorded.{started}
 
 -- the entry of an edge that ran: its first output, its command, the greatest stamp that it read, its dependencies
 abbrev pub edge_entry : (output command : List ℕ) (basis : ℕ) (paths : List (List ℕ)) → EntryData
@@ -38,3 +39,20 @@ TakesIn bytes len old new = (others : List EntryData) × IsGoodFront bytes other
 -- the last operation on the file appended these bytes
 abbrev pub IsWritten : {F : Type 0} → (contents : F → Option (List ℕ)) → F → List ℕ → Type 0
 IsWritten {F} contents file bytes = (before : F) × Appends (contents before) (contents file) bytes
+
+-- The command of an edge that makes these files may begin: after the old entries come maybe those of other builders, and
+-- then the start entries. The last operation on the file appended the latter.
+pub record Begins {F : Type 0} (contents : F → Option (List ℕ)) (old new : Recording F) (outputs : List (List ℕ)) : Type 0 where
+  pub read : List EntryData
+  pub grows : Grows old.entries read
+  pub entries : new.entries ≡ read ++ started read outputs
+  pub written : IsWritten contents new.file (flat_map spelling (started read outputs))
+
+-- the length of a path in an entry
+abbrev pub is_path_len : ℕ → Bool
+is_path_len len = nat_lt 0 len && nat_le len 4096
+
+-- As far as they go, these bytes may be the first ones of an entry of less than 16 MiB: the first byte of its length is 0,
+-- and its fifth and sixth byte are the length of its output's path.
+abbrev pub may_begin : List ℕ → Bool
+may_begin bytes = (get_or bytes 0 0 == 0) && (nat_lt (length bytes) 6 || is_path_len (get_or bytes 4 0 * 256 + get_or bytes 5 0))

@@ -19,7 +19,7 @@ abbrev pub record_variable : List ℕ
 record_variable = 80 ∷ 76 ∷ 65 ∷ 78 ∷ 95 ∷ 78 ∷ 73 ∷ 78 ∷ 74 ∷ 65 ∷ 95 ∷ 82 ∷ 69 ∷ 67 ∷ 79 ∷ 82 ∷ 68 ∷ 83 ∷ []
 
 -- The command runs the shell on this text, in this program's own folder and environment. Only the variable that names
--- the locked records is set.
+-- the builders above is set.
 pub record IsShellOf (command : Command Global) (text records : List ℕ) : Type 0 where
   pub program : command_program command ≡ shell
   pub words : command_args command ≡ shell_words text
@@ -27,6 +27,10 @@ pub record IsShellOf (command : Command Global) (text records : List ℕ) : Type
   pub locked : command_var command record_variable ≡ Some (Some records)
   pub variables : (name : List ℕ) → name ≢ record_variable → command_var command name ≡ None
   pub environment : clears_env command ≡ false
+
+-- a shell that runs exactly this text was started, and ended with this code
+abbrev pub HasRun : (ended : Command Global → Option ℤ → Type 0) → (text : List ℕ) → Option ℤ → Type 0
+HasRun ended text code = (shell : Command Global) × (records : List ℕ) × IsShellOf shell text records × ended shell code
 
 -- the reply for an exit code; None if a signal ended the command
 abbrev pub ending : Option ℤ → Reply

@@ -1,46 +1,46 @@
 //! The lock that keeps a second builder from a record, and files that several processes use at once.
 
 use crate::fault::DeviceFault;
+use crate::holders::{holds_by_input, is_nested};
+use crate::processes::{FileName, name_in, own_process};
+use crate::waiting::wait_for;
 use std::alloc::Global;
 use std::env::{self, Env, VarError};
-use std::fs::{self, File, Metadata, OpenFile, OpenOptions, TryLockError};
-use std::io::{self, ErrorKind};
-use std::os::unix::fs::MetadataExt;
+use std::fs::{self, File, OpenFile, OpenOptions, TryLockError};
+use std::io::{self, ErrorKind, Seek, SeekFrom, Write};
+use std::process::Stdio;
 use std::rt::Files;
-use std::thread;
-use std::time::{Clock, Duration};
+use std::time::Clock;
 
-/// The environment variable that names the locks that the builders above a command hold. It has the device and the
-/// inode of each lock's file, as `DEVICE:INODE`, with blanks between them.
-pub(crate) const VARIABLE: &str = "PLAN_NINJA_RECORDS";
+/// The environment variable that names the builders above a command. Each name is `DEVICE:INODE:PROCESS:START`, with
+/// blanks between the names: the device and the inode of the lock's file, the number of the builder's process, and the
+/// time at which that process began.
+pub const VARIABLE: &str = "PLAN_NINJA_RECORDS";
 
-/// How often a builder looks for the lock before it says that it waits.
-const LOOKS: u32 = 100;
-
-/// The time between two looks, in milliseconds.
-const PAUSE: u64 = 10;
-
-/// The lock of a record, held until this value is dropped, or the permission to work without the lock because a builder
-/// above this one holds it.
+/// The lock of a record, held until this value is dropped or released, or the permission to work without the lock
+/// because a builder above this one holds it. Commands share the lock.
 #[derive(Drop)]
 pub(crate) struct BuilderLock<F> {
     /// The file next to the record. None if a builder above holds its lock.
     file: Option<F>,
     /// The value of the variable for commands of this builder.
     names: String,
+    /// Whether the standard input of this program holds the lock, so that its commands can hold it too.
+    inherits: bool,
 }
 
-/// Checks whether a name is one of the names in a text.
-pub(crate) fn is_named(names: &str, name: &str) -> bool {
-    names.split(' ').any(|one| one == name)
+/// Returns the name of this builder, with the lock of a file. The last two numbers are 0 if the system doesn't show its
+/// processes.
+fn own_name<R: Files + AllocGlobal>(rt: &R, file: FileName) -> Result<String, DeviceFault> {
+    let FileName { device, inode } = file;
+    let (process, start) = match own_process(rt) {
+        Some(own) => (own.number, own.start),
+        None => (0, 0),
+    };
+    Ok(format!(in rt.alloc(); "{device}:{inode}:{process}:{start}")?)
 }
 
-/// Returns the name of a file: its device and its inode.
-fn name_of(alloc: Global, file: &Metadata) -> Result<String, DeviceFault> {
-    Ok(format!(in alloc; "{}:{}", file.dev(), file.ino())?)
-}
-
-/// Returns the names of the locks that the builders above hold.
+/// Returns the names of the builders above.
 fn names_above<R: Env + AllocGlobal>(rt: &R) -> Result<String, DeviceFault> {
     match env::var(rt, VARIABLE) {
         Ok(names) => Ok(names),
@@ -57,51 +57,105 @@ fn names_with(alloc: Global, names: &str, name: &str) -> Result<String, DeviceFa
     Ok(format!(in alloc; "{names} {name}")?)
 }
 
-/// Waits until no other builder holds the lock of a record. After a second, reports once that it waits.
-fn wait_for<R: Clock + Eprint, F: SharedFile>(rt: &R, file: &F, record: &str) -> io::Result<()> {
-    for _ in 0..LOOKS {
-        if file.try_lock()? {
-            return Ok(());
-        }
-        thread::sleep(rt, Duration::from_millis(PAUSE));
+/// Refuses a lock that is a symbolic link, so that no file is created where the link points. A link that can't be read
+/// can't be followed either.
+fn refuse_link<R: Files + AllocGlobal>(rt: &R, path: &str) -> Result<(), DeviceFault> {
+    match fs::read_link(rt, path) {
+        Ok(_) => Err(DeviceFault::LinkedLock),
+        Err(error) if error.kind() == ErrorKind::OutOfMemory => Err(DeviceFault::Memory),
+        Err(_) => Ok(()),
     }
-    let _ = eprintln!(rt; "plan_ninja: waiting for another build that uses {record}");
-    file.lock()
+}
+
+/// Opens the file of a lock, and creates it if it is missing. Commands read from its end on, so that they read nothing.
+fn open_lock<R: Files + AllocGlobal>(rt: &R, path: &str) -> Result<R::File, DeviceFault>
+where
+    R::File: Seek + Drop,
+{
+    refuse_link(rt, path)?;
+    let (file, _) = open_shared(rt, path)?;
+    let mut file = file;
+    file.seek(SeekFrom::End(0))?;
+    Ok(file)
+}
+
+/// Takes the lock of a file unless a builder above this one holds it. Waits for any other builder, and for the commands
+/// of a builder that was killed. Returns whether the lock was taken.
+fn take_or_share<R: Files + Clock + Eprint + AllocGlobal + Clone + Drop>(
+    rt: &R,
+    record: &str,
+    file: &R::File,
+    name: FileName,
+    above: &str,
+) -> Result<bool, DeviceFault>
+where
+    R::File: SharedFile + Write + Drop,
+{
+    if file.try_lock()? {
+        return Ok(true);
+    }
+    if is_nested(rt, above, name)? {
+        return Ok(false);
+    }
+    wait_for(rt, record, file, name, above)?;
+    Ok(true)
 }
 
 /// Takes the lock of a record, whose folder must exist. If another builder holds the lock, this builder waits. But if
 /// it was started by a command of that builder, it goes on without the lock, since that builder waits for the command.
 ///
 /// # Errors
-/// `Device` if the lock's file, RECORD.lock, can't be opened or locked, and `Memory`.
-pub(crate) fn take_lock<R: Files + Env + Clock + Eprint + AllocGlobal>(
+/// `Device` if the lock's file, RECORD.lock, can't be opened or locked, if it is a symbolic link, or if the builder that
+/// holds it waits for this one in another folder, and `Memory`.
+pub(crate) fn take_lock<R: Files + Env + Clock + Eprint + AllocGlobal + Clone + Drop>(
     rt: &R,
     record: &str,
 ) -> Result<BuilderLock<R::File>, DeviceFault>
 where
-    R::File: OpenFile + SharedFile + Drop,
+    R::File: Write + Seek + OpenFile + SharedFile + Drop,
 {
-    let alloc = rt.alloc();
-    let path = format!(in alloc; "{record}.lock")?;
-    let (file, _) = open_shared(rt, path.as_str())?;
+    let path = format!(in rt.alloc(); "{record}.lock")?;
+    let file = open_lock(rt, path.as_str())?;
     let above = names_above(rt)?;
-    let own = name_of(alloc, &file.metadata()?)?;
-    if !file.try_lock()? {
-        if is_named(&above, &own) {
-            return Ok(BuilderLock {
-                file: None,
-                names: above,
-            });
-        }
-        wait_for(rt, &file, record)?;
+    let name = name_in(&file.metadata()?);
+    let is_taken = take_or_share(rt, record, &file, name, &above)?;
+    let own = own_name(rt, name)?;
+    let names = names_with(rt.alloc(), &above, &own)?;
+    if is_taken {
+        return Ok(BuilderLock::held(file, names));
     }
-    Ok(BuilderLock {
-        file: Some(file),
-        names: names_with(alloc, &above, &own)?,
-    })
+    drop(file);
+    let inherits = inherits(rt, name)?;
+    Ok(BuilderLock::shared(names, inherits))
+}
+
+/// Checks whether the standard input of this process holds the lock of a file.
+fn inherits<R: Files + AllocGlobal>(rt: &R, file: FileName) -> Result<bool, DeviceFault> {
+    match own_process(rt) {
+        Some(own) => Ok(holds_by_input(rt, own.number, file)?),
+        None => Ok(false),
+    }
 }
 
 impl<F> BuilderLock<F> {
+    /// Returns the lock of a file that was locked.
+    fn held(file: F, names: String) -> BuilderLock<F> {
+        BuilderLock {
+            file: Some(file),
+            names,
+            inherits: false,
+        }
+    }
+
+    /// Returns the permission to work without the lock.
+    fn shared(names: String, inherits: bool) -> BuilderLock<F> {
+        BuilderLock {
+            file: None,
+            names,
+            inherits,
+        }
+    }
+
     /// Checks whether this builder itself holds the lock, rather than a builder above it.
     pub(crate) fn is_held(&self) -> bool {
         self.file.is_some()
@@ -113,8 +167,29 @@ impl<F> BuilderLock<F> {
     }
 }
 
-/// A file with a lock that one process holds at a time. The lock ends when the file is closed, also if its process is
-/// killed. A file system without locks grants each one.
+impl<F: SharedFile> BuilderLock<F> {
+    /// Returns the standard input of a command: the file of the lock, which the command then shares. So no other builder
+    /// takes the lock until this one has released it, or until the last command has ended, if this builder is killed.
+    /// A builder without the lock shares it by its own standard input, if that holds it.
+    pub(crate) fn input(&self) -> io::Result<Stdio> {
+        match &self.file {
+            Some(file) => file.as_input(),
+            None if self.inherits => Ok(Stdio::inherit()),
+            None => Ok(Stdio::null()),
+        }
+    }
+
+    /// Releases the lock, also for processes that commands left running.
+    pub(crate) fn release(&self) {
+        if let Some(file) = &self.file {
+            let _ = file.unlock();
+        }
+    }
+}
+
+/// A file with a lock that one process holds at a time, or several that share the open file. The lock ends when it is
+/// released, or when the last of them has closed the file, also if it is killed. A file system without locks grants
+/// each one.
 pub trait SharedFile {
     /// Waits for the lock and takes it.
     fn lock(&self) -> io::Result<()>;
@@ -122,8 +197,11 @@ pub trait SharedFile {
     /// Takes the lock, and returns false if another process holds it.
     fn try_lock(&self) -> io::Result<bool>;
 
-    /// Releases the lock.
+    /// Releases the lock, for all processes that share it.
     fn unlock(&self) -> io::Result<()>;
+
+    /// Returns this file as the standard input of a process, which then shares the lock.
+    fn as_input(&self) -> io::Result<Stdio>;
 }
 
 /// Checks whether this kind of error means that a file may not be written.
@@ -175,5 +253,9 @@ impl SharedFile for File {
 
     fn unlock(&self) -> io::Result<()> {
         allow_lockless(File::unlock(self))
+    }
+
+    fn as_input(&self) -> io::Result<Stdio> {
+        Ok(Stdio::from(self.try_clone()?))
     }
 }

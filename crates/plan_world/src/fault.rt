@@ -49,9 +49,18 @@ pub(crate) enum DeviceFault {
     /// One of the parts is too long for an entry.
     #[error("a path or a command is too long")]
     TooLong,
+    /// The file isn't empty, and doesn't begin like a record.
+    #[error("it is no build record")]
+    NoRecord,
     /// The record can't be written any more: its file was removed, or an earlier cut of the file failed.
     #[error("the build record was lost")]
     Lost,
+    /// The lock of the record is a symbolic link.
+    #[error("its lock is a symbolic link")]
+    LinkedLock,
+    /// The builder that holds the lock of the record waits for this one, in another folder.
+    #[error("the build that uses it waits for this one")]
+    Circle,
 }
 
 impl From<AllocError> for DeviceFault {

@@ -4,16 +4,23 @@
 //! - `Shells`: starts the shells of commands and waits for them. `SystemShells`: the shells of the system.
 //! - `OpenFault`: why a record can't be opened.
 //! - `recompact`, `restat`, `recorded_outputs`: rewrite or list a record between builds.
-//! - `SharedFile`: a file with a lock, such as the record's file.
+//! - `SharedFile`: a file with a lock, such as the record's file. `VARIABLE` names the builders above a command.
+//! - `Process`, `all_processes`, `own_process`, `with_below`: the processes of the system.
 //!
 //! docs/rules/world.md has the rules one by one.
 #![tactic(auto)]
 
 mod askable;
+mod begins;
 mod builder_lock;
+mod circles;
 mod depfile;
+mod ended_entries;
 mod fault;
+mod holders;
 mod maintenance;
+mod parts;
+mod processes;
 mod reasons;
 mod record_file;
 mod record_sink;
@@ -22,11 +29,13 @@ mod restating;
 mod rewriting;
 mod shell;
 mod stamp;
+mod waiting;
 mod world;
 
-pub use builder_lock::SharedFile;
+pub use builder_lock::{SharedFile, VARIABLE};
 pub use fault::OpenFault;
 pub use maintenance::{recompact, recorded_outputs, restat};
+pub use processes::{Process, all_processes, own_process, with_below};
 pub use shell::{Printed, Shells, SystemShells};
 pub use world::RealWorld;
 

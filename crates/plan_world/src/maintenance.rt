@@ -13,7 +13,7 @@ use std::rt::Files;
 use std::time::Clock;
 
 /// Takes the lock of a record, and opens the record. If it isn't a file, no lock is created.
-pub(crate) fn locked_record<R: Files + Env + Clock + Eprint + AllocGlobal>(
+pub(crate) fn locked_record<R: Files + Env + Clock + Eprint + AllocGlobal + Clone + Drop>(
     rt: &R,
     record: &str,
 ) -> Result<(BuilderLock<R::File>, RecordFile<R::File>), DeviceFault>
@@ -42,7 +42,7 @@ fn report_fault<T, R: Eprint>(
 }
 
 /// Compacts a record, if it exists.
-fn recompact_file<R: Files + Env + Clock + Eprint + AllocGlobal>(
+fn recompact_file<R: Files + Env + Clock + Eprint + AllocGlobal + Clone + Drop>(
     rt: &R,
     record: &str,
 ) -> Result<(), DeviceFault>
@@ -67,7 +67,7 @@ where
 /// # Errors
 /// `Device` if the record or its lock can't be opened, read or locked, or if the new file can't be written, and
 /// `Memory`. After an error the record is unchanged.
-pub fn recompact<R: Files + Env + Clock + Eprint + AllocGlobal>(
+pub fn recompact<R: Files + Env + Clock + Eprint + AllocGlobal + Clone + Drop>(
     rt: &R,
     record: &str,
 ) -> Result<(), OpenFault>
@@ -83,7 +83,7 @@ where
 }
 
 /// Restates a record, if it exists.
-fn restat_file<R: Files + Env + Clock + Eprint + AllocGlobal>(
+fn restat_file<R: Files + Env + Clock + Eprint + AllocGlobal + Clone + Drop>(
     rt: &R,
     record: &str,
     outputs: &[&[u8]],
@@ -107,7 +107,7 @@ where
 ///
 /// # Errors
 /// As for `recompact`, and `Device` if the stamp of an output can't be determined.
-pub fn restat<R: Files + Env + Clock + Eprint + AllocGlobal>(
+pub fn restat<R: Files + Env + Clock + Eprint + AllocGlobal + Clone + Drop>(
     rt: &R,
     record: &str,
     outputs: &[&[u8]],
@@ -124,7 +124,7 @@ where
 }
 
 /// Returns the outputs of a record. Returns no outputs if it doesn't exist.
-fn outputs_of_file<R: Files + Env + Clock + Eprint + AllocGlobal>(
+fn outputs_of_file<R: Files + Env + Clock + Eprint + AllocGlobal + Clone + Drop>(
     rt: &R,
     record: &str,
 ) -> Result<RowList<u8>, DeviceFault>
@@ -145,7 +145,7 @@ where
 ///
 /// # Errors
 /// `Device` if the record or its lock can't be opened, read or locked, and `Memory`.
-pub fn recorded_outputs<R: Files + Env + Clock + Eprint + AllocGlobal>(
+pub fn recorded_outputs<R: Files + Env + Clock + Eprint + AllocGlobal + Clone + Drop>(
     rt: &R,
     record: &str,
 ) -> Result<RowList<u8>, OpenFault>

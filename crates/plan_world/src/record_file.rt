@@ -1,24 +1,28 @@
 //! The record's file, while it is open.
 
-ghost use Rattle.std.specs.Prelude.{◌≡◌, ◌++◌, ◌∷◌, [], false, IfOk, IfSome, OnOk, OnErr, map};
+ghost use Rattle.std.specs.Prelude.{◌≡◌, ◌+◌, ◌*◌, ◌++◌, ◌∷◌, [], false, true, IfOk, IfSome, OnOk, OnErr, get_or, map};
 ghost use Rattle.std.specs.Io.KnownBytes.{Appends};
 ghost use Rattle.std.specs.List.{flat_map};
 ghost use Rattle.plan_record.specs.Compaction.{last_entries};
 ghost use Rattle.plan_record.specs.Entries.{HasSpelling, IsGoodFront, last_of, spelling};
-ghost use Rattle.plan_world.specs.StartRecorded.{begun};
-ghost use Rattle.plan_world.specs.Recording.{EndsWith, Grows, IsWritten, TakesIn, edge_entry};
+ghost use Rattle.plan_world.specs.StartRecorded.{begun, ended, ended_for, started};
+ghost use Rattle.plan_world.specs.Recording.{Begins, EndsWith, Grows, IsWritten, TakesIn, edge_entry, is_path_len, may_begin};
 ghost use Rattle.plan_world.specs.Rewriting.{has_grown};
 
 use crate::builder_lock::{SharedFile, open_shared};
 use crate::fault::DeviceFault;
-use crate::record_sink::{RecordSink, begun_entry, bytes_of, entry_of, outputs_of};
-use plan_record::{Entry, Record, load, read_entries};
+use crate::record_sink::{
+    RecordSink, begun_entry, bytes_of, ended_entry, entry_of, outputs_of, push_all_begun,
+};
+use crate::stamp::stamp_at;
+use plan_record::{Entry, Record, load, read_entries, spellings};
 use plan_text::RowList;
 use plan_verify::PathList;
 use std::alloc::Global;
 use std::fs::{Metadata, OpenFile};
 use std::io::{ErrorKind, Read, Seek, Write};
 use std::marker::Model;
+use std::os::unix::fs::MetadataExt;
 use std::rt::Files;
 
 /// A record with this many entries or fewer isn't compacted.
@@ -88,9 +92,49 @@ fn read_all<F: Read + OpenFile>(alloc: Global, file: &mut F) -> Result<Vec<u8>, 
     Ok(bytes)
 }
 
+/// Returns the byte at a place, or 0 if there is none.
+fn byte_at(bytes: &[u8], place: usize) -> u8
+    ensures { result ≡ get_or bytes.now place 0 }
+{
+    if place < bytes.len() { bytes[place] } else { 0 }
+}
+
+/// Checks whether the length of an output's path, as two bytes at the beginning of an entry's body, is 1 to 4,096.
+fn has_path_len(high: u8, low: u8) -> bool
+    ensures { result ≡ is_path_len (high * 256 + low) }
+{
+    let len = u32::from(high) * 256 + u32::from(low);
+    (0 < len) & (len <= 4_096)
+}
+
+/// Checks whether these bytes, as far as they go, may be the first ones of an entry of less than 16 MiB.
+fn may_begin(bytes: &[u8]) -> bool
+    ensures { result ≡ may_begin bytes.now }
+{
+    let is_path = (bytes.len() < 6) | has_path_len(byte_at(bytes, 4), byte_at(bytes, 5));
+    (byte_at(bytes, 0) == 0) & is_path
+}
+
+/// Refuses a file that has no whole entry at its beginning, unless its first bytes may begin one.
+fn check_record(begins: bool, good: u64) -> Result<(), DeviceFault>
+    ensures { OnOk result (good ≡ 0 → begins ≡ true) }
+{
+    if begins {
+        return Ok(());
+    }
+    if good == 0 {
+        return Err(DeviceFault::NoRecord);
+    }
+    Ok(())
+}
+
 /// Reads the record in a file, from the current position on: the longest prefix that consists of whole entries. Cuts
 /// the file to that prefix if it may be written. The caller must hold the file's lock.
-#[tactic(auto, using(crate::proofs::RecordingLemmas::front_spelled))]
+///
+/// # Errors
+/// `NoRecord` if the file isn't empty, no whole entry begins it, and its first bytes can't be those of an entry of less
+/// than 16 MiB. The file is left as it is.
+#[tactic(auto, using(crate::proofs::RecordingLemmas::front_spelled, crate::proofs::RecordingLemmas::is_record))]
 pub(crate) fn load_file<F>(
     alloc: Global,
     file: F,
@@ -99,12 +143,15 @@ pub(crate) fn load_file<F>(
 where
     F: Read + OpenFile + Drop,
     ensures loaded { IfOk result (λ r. IfSome (F.remaining file) (λ bytes. IsGoodFront bytes r.entries r.good)) }
+    ensures record { IfOk result (λ r. IfSome (F.remaining file) (λ bytes. r.good ≡ 0 → may_begin bytes ≡ true)) }
     ensures well { IfOk result (λ r. r.broken ≡ false) }
 {
     let mut file = file;
     let bytes = read_all(alloc, &mut file)?;
     let len = bytes.len() as u64;
+    let begins = may_begin(&bytes);
     let (entries, good) = load(alloc, bytes)?;
+    check_record(begins, good)?;
     let mut sink = RecordSink::new(file, good, unwritable);
     if good < len && unwritable.is_none() {
         sink.cut()?;
@@ -183,11 +230,52 @@ impl<F> RecordFile<F> {
         Ok(outputs_of(alloc, &self.entries.last_entries(alloc)?)?)
     }
 
-    /// Adds an entry that another builder appended to the file.
+    /// Appends the start entry that ends the entry of another edge which made this output before, if there is one, to
+    /// other entries.
+    fn push_ended(
+        &self,
+        alloc: Global,
+        first: &[u8],
+        output: &[u8],
+        entries: &mut Vec<Entry>,
+    ) -> Result<(), DeviceFault>
+        ensures { OnOk result (entries.new.items ≡ entries.old.items ++ ended_for self.now.entries first.now output.now) }
+    {
+        let Some(last) = self.last(alloc, output)? else {
+            return Ok(());
+        };
+        if let Some(entry) = ended_entry(alloc, first, &last)? {
+            entries.push(entry)?;
+        }
+        Ok(())
+    }
+
+    /// Returns the start entries that end the entries of other edges which made these files before.
+    fn ended(&self, alloc: Global, outputs: &RowList<u8>) -> Result<Vec<Entry>, DeviceFault>
+        ensures { IfOk result (λ entries. entries.items ≡ ended self.now.entries (get_or outputs.now 0 []) outputs.now) }
+    {
+        let mut entries = Vec::new(alloc);
+        for number in 0..outputs.len() {
+            self.push_ended(alloc, outputs.row(0), outputs.row(number), &mut entries)?;
+        }
+        Ok(entries)
+    }
+
+    /// Returns the start entries for the command of an edge that makes these files.
+    fn started(&self, alloc: Global, outputs: &RowList<u8>) -> Result<Vec<Entry>, DeviceFault>
+        ensures { IfOk result (λ entries. entries.items ≡ started self.now.entries outputs.now) }
+    {
+        let mut entries = self.ended(alloc, outputs)?;
+        push_all_begun(alloc, outputs, &mut entries)?;
+        Ok(entries)
+    }
+
+    /// Adds an entry that is in the file.
     #[tactic(auto, using(crate::proofs::RecordingLemmas::one_more_spelled))]
     fn take_in(&mut self, alloc: Global, entry: &Entry) -> Result<(), DeviceFault>
         ensures taken { OnOk result (self.new.entries ≡ self.old.entries ++ entry.now ∷ []) }
         ensures unchanged { OnErr result (self.new ≡ self.old) }
+        ensures file { self.new.file ≡ self.old.file }
         ensures well { self.new.broken ≡ self.old.broken }
     {
         let end = self.sink.end_of(bytes_of(alloc, entry)?.len())?;
@@ -196,10 +284,11 @@ impl<F> RecordFile<F> {
         Ok(())
     }
 
-    /// Adds these entries, which other builders appended to the file.
+    /// Adds these entries, which are in the file.
     fn take_in_each(&mut self, alloc: Global, others: &[Entry]) -> Result<(), DeviceFault>
         ensures taken { OnOk result (self.new.entries ≡ self.old.entries ++ others.now) }
         ensures grows { Grows self.old.entries self.new.entries }
+        ensures file { self.new.file ≡ self.old.file }
         ensures well { self.new.broken ≡ self.old.broken }
     {
         for number in 0..others.len() {
@@ -237,6 +326,12 @@ impl<F: OpenFile> RecordFile<F> {
     /// Returns the metadata of the file.
     pub(crate) fn metadata(&self) -> Result<Metadata, DeviceFault> {
         self.sink.metadata()
+    }
+
+    /// Returns the stamp of the file. After an entry was appended, this is the current time of the file system's clock.
+    pub(crate) fn stamp(&self) -> Result<u64, DeviceFault> {
+        let found = self.metadata()?;
+        Ok(stamp_at(found.mtime(), found.mtime_nsec()))
     }
 }
 
@@ -327,6 +422,57 @@ impl<F: Read + Write + Seek + OpenFile + SharedFile> RecordFile<F> {
             command,
             basis,
             paths,
+        })
+    }
+
+    /// Appends entries to the file, which ends with the last entry, by one write. If it fails, cuts the file back.
+    fn append_each(&mut self, alloc: Global, entries: &[Entry]) -> Result<(), DeviceFault>
+        ensures kept { OnOk result (self.new.entries ≡ self.old.entries ++ entries.now) }
+        ensures written { OnOk result (Appends (F.contents self.old.file) (F.contents self.new.file) (flat_map spelling entries.now)) }
+        ensures lost { OnErr result (Grows self.old.entries self.new.entries) }
+        ensures well { OnOk result (self.new.broken ≡ self.old.broken) }
+    {
+        let bytes = spellings(alloc, entries)?;
+        self.sink.put(&bytes)?;
+        match self.take_in_each(alloc, entries) {
+            Ok(()) => Ok(()),
+            Err(fault) => {
+                self.sink.cut()?;
+                Err(fault)
+            }
+        }
+    }
+
+    /// Adds the entries that other builders appended meanwhile, and appends the start entries of an edge. The caller
+    /// must hold the file's lock.
+    fn begin_last(&mut self, alloc: Global, outputs: &RowList<u8>) -> Result<(), DeviceFault>
+        ensures kept { OnOk result (Begins F.contents self.old self.new outputs.now) }
+        ensures lost { OnErr result (Grows self.old.entries self.new.entries) }
+        ensures well { OnOk result (self.new.broken ≡ self.old.broken) }
+    {
+        self.catch_up(alloc)?;
+        let entries = self.started(alloc, outputs)?;
+        self.append_each(alloc, &entries)
+    }
+
+    /// Appends entries that say that the command of the edge that makes these files is about to start: one for each of
+    /// them, and one for each other edge which made one of them before. So the entries of these edges end too.
+    pub(crate) fn begin_all<'a>(
+        &mut self,
+        alloc: Global,
+        outputs: &'a RowList<u8>,
+    ) -> Result<StartRecorded<'a>, DeviceFault>
+        ensures proof { IfOk result (λ b. b ≡ get_or outputs.now 0 []) }
+        ensures kept { OnOk result (Begins F.contents self.old self.new outputs.now) }
+        ensures lost { OnErr result (Grows self.old.entries self.new.entries) }
+        ensures well { OnOk result ((self.old.broken ≡ false) × (self.new.broken ≡ false)) }
+    {
+        self.sink.lock()?;
+        let kept = self.begin_last(alloc, outputs);
+        self.sink.unlock();
+        kept?;
+        Ok(StartRecorded {
+            output: outputs.row(0),
         })
     }
 

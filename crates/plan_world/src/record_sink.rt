@@ -1,10 +1,10 @@
 //! The record's file as a sink, and conversions between the machine's and the record's forms of an entry. Other
 //! builders append to the file too, under the file's lock.
 
-ghost use Rattle.std.specs.Prelude.{◌≡◌, ◌≤◌, ◌+◌, false, true, IfErr, IfOk, OnErr, OnOk, length, ◌≢◌, map};
+ghost use Rattle.std.specs.Prelude.{◌≡◌, ◌≤◌, ◌+◌, ◌++◌, [], false, true, IfErr, IfOk, OnErr, OnOk, Some, drop, get_or, length, option_to_list, ◌≢◌, map};
 ghost use Rattle.std.specs.Io.KnownBytes.{Appends};
 ghost use Rattle.plan_record.specs.Entries.{spelling, HasSpelling};
-ghost use Rattle.plan_world.specs.StartRecorded.{begun};
+ghost use Rattle.plan_world.specs.StartRecorded.{all_begun, begun, begun_with, ended_by, first_named};
 ghost use Rattle.plan_world.specs.Recording.{edge_entry};
 ghost use Rattle.plan_world.specs.Rewriting.{is_begun};
 
@@ -254,4 +254,59 @@ pub(crate) fn begun_entry(alloc: Global, output: &[u8]) -> Result<Entry, DeviceF
     let mut paths = Vec::new(alloc);
     paths.push(Items::new(Vec::from_slice(alloc, &MISSING)?))?;
     Ok(Entry::new(alloc, output, &BEGUN, 0, &paths)?)
+}
+
+/// Returns the start entry of an output other than the first one of its edge.
+fn begun_with_entry(alloc: Global, first: &[u8], output: &[u8]) -> Result<Entry, DeviceFault>
+    ensures { IfOk result (λ entry. entry ≡ begun_with first.now output.now) }
+{
+    let mut paths = Vec::new(alloc);
+    paths.push(Items::new(Vec::from_slice(alloc, &MISSING)?))?;
+    paths.push(Items::new(Vec::from_slice(alloc, first)?))?;
+    Ok(Entry::new(alloc, output, &BEGUN, 0, &paths)?)
+}
+
+/// Appends the start entries of an edge that makes these files to others, that of the first one last.
+pub(crate) fn push_all_begun(
+    alloc: Global,
+    outputs: &RowList<u8>,
+    entries: &mut Vec<Entry>,
+) -> Result<(), DeviceFault>
+    ensures { OnOk result (entries.new.items ≡ entries.old.items ++ all_begun (get_or outputs.now 0 []) (drop 1 outputs.now)) }
+{
+    for number in 1..outputs.len() {
+        entries.push(begun_with_entry(alloc, outputs.row(0), outputs.row(number))?)?;
+    }
+    entries.push(begun_entry(alloc, outputs.row(0))?)?;
+    Ok(())
+}
+
+/// Returns the start entry that ends the entry of another edge, by its first output. None if it is this edge.
+fn ended_by(alloc: Global, first: &[u8], other: &[u8]) -> Result<Option<Entry>, DeviceFault>
+    ensures { IfOk result (λ entry. option_to_list entry ≡ ended_by first.now (Some other.now)) }
+{
+    if other == first {
+        return Ok(None);
+    }
+    Ok(Some(begun_entry(alloc, other)?))
+}
+
+/// Returns the start entry that ends the entry of another edge which made an output before, by the last entry of the
+/// output. None if this entry isn't a start entry that names another edge.
+pub(crate) fn ended_entry(
+    alloc: Global,
+    first: &[u8],
+    last: &Entry,
+) -> Result<Option<Entry>, DeviceFault>
+    ensures { IfOk result (λ entry. option_to_list entry ≡ ended_by first.now (first_named last.now)) }
+{
+    if !is_begun(last) {
+        return Ok(None);
+    }
+    let mut paths = last.paths()?;
+    paths.advance();
+    match paths.first() {
+        Some(other) => ended_by(alloc, first, other),
+        None => Ok(None),
+    }
 }

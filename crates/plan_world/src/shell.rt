@@ -5,9 +5,9 @@ ghost use Rattle.std.specs.Io.KnownBytes.{Appends};
 ghost use Rattle.plan_machine.specs.declared.event.reply.Reply.TheVariants.{NotStarted};
 ghost use Rattle.plan_verify.specs.Turn.{Run};
 ghost use Rattle.plan_world.specs.Answers.{IsAnswer, IsByShell};
-ghost use Rattle.plan_world.specs.Shells.{AreTexts, IsShellOf, ending};
+ghost use Rattle.plan_world.specs.Shells.{AreTexts, HasRun, IsShellOf, ending};
 
-use crate::builder_lock::VARIABLE;
+use crate::builder_lock::{BuilderLock, SharedFile, VARIABLE};
 use crate::fault::DeviceFault;
 use crate::reasons::say;
 use crate::record_file::StartRecorded;
@@ -17,12 +17,12 @@ use plan_text::RowList;
 use std::alloc::{AllocError, Global};
 use std::io::{self, Read, Write};
 use std::path::Path;
-use std::process::{Child, Command, ExitStatus, OpenProcess, Processes, Stdio};
+use std::process::{Child, Command, ExitStatus, OpenProcess, Processes};
 use std::rt::Files;
 use std::sync::{Mutex, Wait};
 use std::{fs, str};
 
-/// Returns the shell with a command as its argument, and with these names of locked records in its environment. A
+/// Returns the shell with a command as its argument, and with these names of builders in its environment. A
 /// command that begins with a hyphen isn't taken as an option.
 fn shell_of(alloc: Global, text: &str, records: &str) -> Result<Command, AllocError>
     ensures { IfOk result (λ command. IsShellOf command text.now records.now) }
@@ -122,8 +122,7 @@ pub(crate) fn make_folders<R: Files + Eprint>(rt: &R, files: &RowList<u8>) -> bo
     true
 }
 
-/// Runs a shell with empty standard input, shows the output of its command, and returns its exit code. Returns None if
-/// a signal ended it.
+/// Runs a shell, shows the output of its command, and returns its exit code. Returns None if a signal ended it.
 fn run_aside<R: Print + Wait + AllocGlobal, S: Shells>(
     rt: &R,
     screen: &Mutex<()>,
@@ -163,37 +162,58 @@ fn say_if_lost<R: Eprint>(rt: &R, output: &[u8], ended: Result<Option<i32>, Devi
     }
 }
 
-/// Runs a shell, on the terminal if its command is a console command.
-fn run_where<R: Print + Wait + AllocGlobal, S: Shells>(
+/// Returns a shell whose standard input is the file of the lock.
+///
+/// # Errors
+/// The file can't be given to the command, and `Memory`.
+fn shell_with<F: SharedFile>(
+    alloc: Global,
+    text: &str,
+    records: &str,
+    lock: &BuilderLock<F>,
+) -> Result<Command, DeviceFault>
+    ensures { IfOk result (λ command. IsShellOf command text.now records.now) }
+{
+    let mut shell = shell_of(alloc, text, records)?;
+    shell.stdin(lock.input()?);
+    Ok(shell)
+}
+
+/// Runs a command by a shell, on the terminal if it is a console command.
+fn run_text<R: Print + Wait + AllocGlobal, S: Shells, F: SharedFile>(
     rt: &R,
     screen: &Mutex<()>,
     shells: &S,
-    shell: Command,
+    text: &str,
     console: bool,
+    lock: &BuilderLock<F>,
     edge: &[u8],
 ) -> Result<Option<i32>, DeviceFault>
-    ensures { IfOk result (λ code. S.ended shell code) }
+    ensures { IfOk result (λ code. HasRun S.ended text.now code) }
 {
+    let records = lock.names();
     if console {
+        let shell = shell_of(rt.alloc(), text, records)?;
         return run_on_terminal(rt, screen, shells, shell, edge);
     }
+    let shell = shell_with(rt.alloc(), text, records, lock)?;
     run_aside(rt, screen, shells, shell, edge)
 }
 
-/// Runs the command of an edge whose start entry is in the record. A console command runs on the terminal. Any other
-/// command runs with empty standard input, and its output is shown when it has ended. If the shell can't be started,
-/// reports the reason on standard error.
+/// Runs the command of an edge whose start entry is in the record. A console command runs on the terminal. The standard
+/// input of any other command is the empty file of the lock, which it then shares, and its output is shown when it has
+/// ended. If the shell can't be started, reports the reason on standard error.
 ///
 /// # Errors
 /// `AllocError` if memory runs out. If it ran out for the output of the command, the command was killed.
-pub(crate) fn run_shell<R: Print + Eprint + Wait + AllocGlobal, S: Shells>(
+pub(crate) fn run_shell<R: Print + Eprint + Wait + AllocGlobal, S: Shells, F: SharedFile>(
     rt: &R,
     screen: &Mutex<()>,
     shells: &S,
     command: &[u8],
     console: bool,
     outputs: &RowList<u8>,
-    records: &str,
+    lock: &BuilderLock<F>,
     begun: StartRecorded<'_>,
 ) -> Result<Reply, AllocError>
     requires { slice_get outputs.now 0 ≡ Some begun }
@@ -204,8 +224,7 @@ pub(crate) fn run_shell<R: Print + Eprint + Wait + AllocGlobal, S: Shells>(
     let Ok(text) = str::from_utf8(command) else {
         return Ok(Reply::NotStarted);
     };
-    let shell = shell_of(rt.alloc(), text, records)?;
-    let ended = run_where(rt, screen, shells, shell, console, outputs.row(0));
+    let ended = run_text(rt, screen, shells, text, console, lock, outputs.row(0));
     say_if_lost(rt, outputs.row(0), ended);
     reply_of_shell(ended)
 }
@@ -231,8 +250,8 @@ pub trait Shells {
     /// This shell was started and waited for. It ended with this status, or without a status if a signal ended it.
     ghost ended: { Shell Global → Option ℤ → Type 0 };
 
-    /// Runs the shell of an edge with empty standard input. Returns its exit status, and the part of its output that
-    /// the caller has to show now. `edge` is the first output of the edge.
+    /// Runs the shell of an edge with the standard input that it has. Returns its exit status, and the part of its
+    /// output that the caller has to show now. `edge` is the first output of the edge.
     ///
     /// # Errors
     /// The shell can't be started or waited for, or memory runs out for its output. Then the shell was killed.
@@ -299,7 +318,6 @@ impl<R: Processes + Files> Shells for SystemShells<R> {
         let mut shell = shell;
         let mut text = Vec::new(*shell.allocator());
         let (mut reader, writer) = io::pipe(&self.rt)?;
-        shell.stdin(Stdio::null());
         shell.stdout(writer.try_clone()?);
         shell.stderr(writer);
         let mut child = shell.spawn(&self.rt)?;

@@ -21,7 +21,7 @@ use std::{fs, str};
 const SECOND: u64 = 1_000_000_000;
 
 /// Returns a time in nanoseconds since 1970, at least 1 and at most the greatest stamp.
-fn stamp_at(seconds: i64, nanoseconds: i64) -> u64
+pub(crate) fn stamp_at(seconds: i64, nanoseconds: i64) -> u64
     ensures stamp { result ≡ stamp_of seconds nanoseconds }
     ensures there { 1 ≤ result }
 {

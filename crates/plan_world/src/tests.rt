@@ -1,11 +1,15 @@
 //! Tests with real files and commands. Each test has its own folder.
 
+mod begins;
 mod commands;
 mod failing;
 mod record;
 
-use crate::builder_lock::is_named;
-use crate::{RealWorld, SharedFile, Shells, SystemShells};
+use crate::holders::{BuilderName, builder_named, holder_in_line};
+use crate::processes::{FileName, process_in};
+use crate::{
+    Process, RealWorld, SharedFile, Shells, SystemShells, all_processes, own_process, with_below,
+};
 use plan_lanes::World;
 use plan_machine::{Depfile, Recorded, Reply};
 use plan_text::RowList;
@@ -327,12 +331,66 @@ fn depfiles(rt: HostRuntime) -> Result<(), Fail> {
     Ok(())
 }
 
-/// Checks that a name of a lock is found only as a whole word.
+/// Checks what is read in a line of /proc/PID/stat. The name of the process has blanks and parentheses.
 #[test]
-fn names_of_locks(rt: HostRuntime) -> Result<(), Fail> {
-    assert!(rt; is_named("1:2 3:45", "3:45"));
-    assert!(rt; is_named("1:2 3:45", "1:2"));
-    assert!(rt; !is_named("1:2 3:45", "3:4"));
-    assert!(rt; !is_named("", "3:4"));
+fn lines_of_processes(rt: HostRuntime) -> Result<(), Fail> {
+    let line = b"31 (a) b (c) S 7 30 29 0 -1 4 5 6 7 8 9 10 11 12 20 0 1 0 987 1 2".as_slice();
+    let process = Process {
+        number: 31,
+        parent: 7,
+        session: 29,
+        start: 987,
+    };
+    assert!(rt; process_in(line) == Some(process));
+    assert!(rt;
+        process_in(b"31 (a) Z 7 30 29 0 -1 4 5 6 7 8 9 10 11 12 20 0 1 0 987 1 2").is_none()
+    );
+    assert!(rt; process_in(b"31 (a) S 7 30").is_none());
+    assert!(rt; process_in(b"").is_none());
+    Ok(())
+}
+
+/// Checks who holds a lock by a line of /proc/locks.
+#[test]
+fn lines_of_locks(rt: HostRuntime) -> Result<(), Fail> {
+    let held = b"7: FLOCK  ADVISORY  WRITE 1234 fe:00:567 0 EOF".as_slice();
+    assert!(rt; holder_in_line(held, 567) == Some(1234));
+    assert!(rt; holder_in_line(held, 56).is_none());
+    assert!(rt;
+        holder_in_line(b"7: -> FLOCK  ADVISORY  WRITE 1234 fe:00:567 0 EOF", 567).is_none()
+    );
+    assert!(rt; holder_in_line(b"7: POSIX  ADVISORY  WRITE 1234 fe:00:567 0 EOF", 567).is_none());
+    assert!(rt; holder_in_line(b"", 567).is_none());
+    Ok(())
+}
+
+/// Checks which builder a name is of.
+#[test]
+fn names_of_builders(rt: HostRuntime) -> Result<(), Fail> {
+    let builder = BuilderName {
+        lock: FileName {
+            device: 1,
+            inode: 2,
+        },
+        process: 34,
+        start: 56,
+    };
+    assert!(rt; builder_named(b"1:2:34:56") == Some(builder));
+    assert!(rt; builder_named(b"1:2").is_none());
+    assert!(rt; builder_named(b"").is_none());
+    Ok(())
+}
+
+/// Checks that this process is found among all, and that what is below a process is found.
+#[test]
+fn own_process_is_shown(rt: HostRuntime) -> Result<(), Fail> {
+    let Some(own) = own_process(&rt) else {
+        return Err(Fail::from(AllocError));
+    };
+    let all = all_processes(&rt)?;
+    let below = with_below(rt.alloc(), &all, &[own.parent])?;
+    assert_eq!(rt; own.number, u64::from(process::id(rt.process())));
+    assert!(rt; all.contains(&own));
+    assert!(rt; below.contains(&own.number));
     Ok(())
 }

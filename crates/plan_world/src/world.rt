@@ -1,6 +1,6 @@
 //! The world of real files and commands.
 
-ghost use Rattle.std.specs.Prelude.{◌≡◌, [], IfErr, IfOk, IfSome, IsUtf8, None, Ok};
+ghost use Rattle.std.specs.Prelude.{◌≡◌, ◌≤◌, ℕ, [], IfErr, IfOk, IfSome, IsUtf8, None, Ok, get_or};
 ghost use Rattle.plan_machine.specs.declared.event.reply.Reply.TheVariants as reply;
 ghost use Rattle.plan_verify.specs.Turn.{Keep, Recall, Run};
 ghost use Rattle.plan_world.specs.Answers.{IsAnswer, IsByShell, MayAnswer};
@@ -9,12 +9,14 @@ ghost use Rattle.plan_world.specs.Recording.{edge_entry};
 ghost use Rattle.plan_world.specs.Shells.{AreTexts};
 
 use crate::askable::are_askable;
+use crate::begins::{Begins, basis_from, is_later};
 use crate::builder_lock::{BuilderLock, SharedFile, take_lock};
 use crate::depfile::read_depfile;
+use crate::ended_entries::EndedEntries;
 use crate::fault::{DeviceFault, OpenFault};
 use crate::reasons::say;
 use crate::record_file::{Kept, RecordFile, StartRecorded, open_file, open_record};
-use crate::record_sink::recorded_of;
+use crate::record_sink::{begun_entry, recorded_of};
 use crate::rewriting::compact_grown;
 use crate::shell::{Shells, make_folders, run_shell};
 use crate::stamp::stat;
@@ -51,6 +53,10 @@ pub struct RealWorld<R: Files, S> {
     record: Mutex<Option<RecordFile<R::File>>>,
     /// Keeps other builders from the record.
     lock: BuilderLock<R::File>,
+    /// The commands that have begun. None unless this is a world of the stricter rule.
+    begins: Option<Begins>,
+    /// The outputs whose entries were ended for this build.
+    ended: EndedEntries,
 }
 
 impl<R: Files + Env + Clock + Eprint + AllocGlobal, S> RealWorld<R, S>
@@ -60,18 +66,50 @@ where
     /// Opens the world of a runtime and of shells, with the record at this path. Creates an empty record if it is
     /// missing. Its folder must exist. A record that may not be written is only read.
     ///
-    /// Waits while another builder uses the record, and reports that on standard error after a second. A builder that
-    /// was started by a command of that builder doesn't wait.
+    /// Waits while another builder uses the record, or a command of a builder that was killed, and reports that on
+    /// standard error after a second. A builder that was started by a command of that builder doesn't wait.
     ///
     /// A record of 64 KiB or more isn't read here, but by `read_record` or by the first call that needs it.
     ///
     /// # Errors
-    /// `Device` if the record or its lock can't be created, read, locked or cut, and `Memory`.
+    /// `Device` if the record or its lock can't be created, read, locked or cut, if the lock is a symbolic link, or if
+    /// the builder that holds it waits for this one in another folder, and `Memory`.
     pub fn open(rt: R, shells: S, record: &str) -> Result<RealWorld<R, S>, OpenFault>
     where
-        R: Drop,
+        R: Clone + Drop,
         S: Drop,
     {
+        RealWorld::open_with(rt, shells, record, None)
+    }
+
+    /// Opens the world of the stricter rule, like `open`. In this world each output of an edge has a start entry before
+    /// its command begins, and entries of other edges that made one of these files end. The basis of an entry is at
+    /// most the stamp that a file would have got when the command began. So an input that is changed while the command
+    /// runs makes the edge out of date in the next build.
+    ///
+    /// # Errors
+    /// As for `open`.
+    pub fn open_stricter(rt: R, shells: S, record: &str) -> Result<RealWorld<R, S>, OpenFault>
+    where
+        R: Clone + Drop,
+        S: Drop,
+    {
+        let begins = Begins::new(rt.alloc());
+        RealWorld::open_with(rt, shells, record, Some(begins))
+    }
+
+    /// Opens the world of a runtime and of shells. If `begins` is given, it is a world of the stricter rule.
+    fn open_with(
+        rt: R,
+        shells: S,
+        record: &str,
+        begins: Option<Begins>,
+    ) -> Result<RealWorld<R, S>, OpenFault>
+    where
+        R: Clone + Drop,
+        S: Drop,
+    {
+        let ended = EndedEntries::new(rt.alloc());
         match open_for_building(&rt, record) {
             Ok((path, lock, file)) => Ok(RealWorld {
                 rt,
@@ -81,6 +119,8 @@ where
                 path,
                 record: Mutex::new(file),
                 lock,
+                begins,
+                ended,
             }),
             Err(fault) => {
                 say(&rt, "can't open the record", record.as_bytes(), fault);
@@ -108,7 +148,7 @@ where
 
 /// Takes the lock of a record, and reads the record if it is short. Also returns its path. Refuses folders, devices and
 /// pipes before it creates a lock.
-fn open_for_building<R: Files + Env + Clock + Eprint + AllocGlobal>(
+fn open_for_building<R: Files + Env + Clock + Eprint + AllocGlobal + Clone + Drop>(
     rt: &R,
     record: &str,
 ) -> Result<(String, BuilderLock<R::File>, Option<RecordFile<R::File>>), DeviceFault>
@@ -183,6 +223,17 @@ where
     }
 }
 
+impl<R: Files, S> RealWorld<R, S>
+where
+    R::File: SharedFile,
+{
+    /// Releases the lock of the record, also for processes that commands left running. A program calls this when its
+    /// build has ended. If the program is killed before, its commands hold the lock until they end.
+    pub fn release(&self) {
+        self.lock.release();
+    }
+}
+
 impl<R: Files, S> RealWorld<R, S> {
     /// Returns the lock of standard output. It is held while a command's output is written, and while a console command
     /// runs. Other writers to standard output must take it too.
@@ -218,7 +269,7 @@ where
             return Ok(Reply::NotStarted);
         }
         self.parker.unpark();
-        match self.begin(outputs.row(0)) {
+        match self.begin(outputs) {
             Ok(begun) => run_shell(
                 &self.rt,
                 &self.screen,
@@ -226,7 +277,7 @@ where
                 command,
                 console,
                 outputs,
-                self.lock.names(),
+                &self.lock,
                 begun,
             ),
             Err(fault) => {
@@ -241,34 +292,98 @@ where
         }
     }
 
-    /// Appends an entry to the record: the command of this output's edge is about to start.
-    fn begin<'a>(&self, output: &'a [u8]) -> Result<StartRecorded<'a>, DeviceFault>
-        ensures { IfOk result (λ b. b ≡ output.now) }
+    /// Appends start entries to the record: the command of the edge that makes these files is about to start. The entry
+    /// of the edge no longer counts, nor is it ended for this build.
+    fn begin<'a>(&self, outputs: &'a RowList<u8>) -> Result<StartRecorded<'a>, DeviceFault>
+        ensures { IfOk result (λ b. b ≡ get_or outputs.now 0 []) }
     {
         let mut record = self.record.lock(&self.rt);
         let record = self.read_in(&mut record)?;
-        record.begin(self.rt.alloc(), output)
+        let begun = match &self.begins {
+            Some(begins) => self.begin_all(begins, record, outputs)?,
+            None => record.begin(self.rt.alloc(), outputs.row(0))?,
+        };
+        self.ended.remove(&self.rt, outputs.row(0));
+        Ok(begun)
     }
 
-    /// Appends the entry of an edge that ran to the record.
+    /// Appends the start entries of all outputs of an edge to the record, and adds the begin of its command to others.
+    fn begin_all<'a>(
+        &self,
+        begins: &Begins,
+        record: &mut RecordFile<R::File>,
+        outputs: &'a RowList<u8>,
+    ) -> Result<StartRecorded<'a>, DeviceFault>
+        ensures { IfOk result (λ b. b ≡ get_or outputs.now 0 []) }
+    {
+        let begun = record.begin_all(self.rt.alloc(), outputs)?;
+        begins.add(&self.rt, outputs.row(0), record.stamp()?)?;
+        Ok(begun)
+    }
+
+    /// Returns when the command of an edge began, if this is a world of the stricter rule. Can be asked once.
+    fn begin_of(&self, output: &[u8]) -> Option<u64> {
+        match &self.begins {
+            Some(begins) => begins.take(&self.rt, output),
+            None => None,
+        }
+    }
+
+    /// Appends the entry of an edge that ran to the record. Its basis is at most the begin of its command, if that is
+    /// given.
     fn append<'a>(
         &self,
         output: &'a [u8],
         command: &'a [u8],
         basis: u64,
+        begin: Option<u64>,
         paths: &'a PathList,
     ) -> Result<Kept<'a>, DeviceFault>
-        ensures { IfOk result (λ k. k ≡ edge_entry output.now command.now basis paths.now) }
+        ensures { IfOk result (λ k. (kept : ℕ) × (kept ≤ basis) × (k ≡ edge_entry output.now command.now kept paths.now)) }
     {
         let mut record = self.record.lock(&self.rt);
         let record = self.read_in(&mut record)?;
-        record.keep_edge(self.rt.alloc(), output, command, basis, paths)
+        record.keep_edge(
+            self.rt.alloc(),
+            output,
+            command,
+            basis_from(begin, basis),
+            paths,
+        )
     }
 
-    /// Returns the last entry of an output, if there is one.
+    /// Returns the stamp of the record, which was just written. Returns None if it can't be determined.
+    fn record_stamp(&self) -> Option<u64> {
+        let mut record = self.record.lock(&self.rt);
+        match self.read_in(&mut record) {
+            Ok(record) => record.stamp().ok(),
+            Err(_) => None,
+        }
+    }
+
+    /// Warns if an edge whose entry was just kept read a file of the future. It is asked only if something that the
+    /// edge read is later than the begin of its command.
+    fn warn_of_future(&self, edge: &[u8], basis: u64, begin: Option<u64>, paths: &PathList) {
+        let (Some(begins), Some(begin)) = (&self.begins, begin) else {
+            return;
+        };
+        if !is_later(basis, begin) {
+            return;
+        }
+        match self.record_stamp() {
+            Some(now) if is_later(basis, now) => begins.warn(&self.rt, edge, paths, now),
+            _ => {}
+        }
+    }
+
+    /// Returns the last entry of an output, if there is one. If its entry was ended for this build, returns a start
+    /// entry.
     fn last(&self, output: &[u8]) -> Result<Option<Entry>, DeviceFault>
         ensures { IfOk result (λ found. IfSome found (λ e. e.output ≡ output.now)) }
     {
+        if self.ended.has(&self.rt, output) {
+            return Ok(Some(begun_entry(self.rt.alloc(), output)?));
+        }
         let mut record = self.record.lock(&self.rt);
         let record = self.read_in(&mut record)?;
         record.last(self.rt.alloc(), output)
@@ -316,7 +431,7 @@ where
 
 /// Returns the reply that the record has the entry of an edge.
 fn keep_reply(kept: Kept<'_>, output: &[u8], command: &[u8], basis: u64, paths: &PathList) -> Reply
-    requires { kept ≡ edge_entry output.now command.now basis paths.now }
+    requires { (least : ℕ) × (least ≤ basis) × (kept ≡ edge_entry output.now command.now least paths.now) }
     ensures suits { IsAnswer (Keep output.now command.now basis paths.now) result }
     ensures kept { result ≡ reply.Kept }
 {
@@ -360,6 +475,10 @@ where
         }
     }
 
+    fn forget(&self, output: &[u8]) -> Result<(), AllocError> {
+        self.ended.add(&self.rt, output)
+    }
+
     fn explain(&self, edge: &[u8], reason: &[u8]) {
         self.shells.explain(edge, reason);
     }
@@ -388,8 +507,12 @@ where
         basis: u64,
         paths: &PathList,
     ) -> Result<Reply, AllocError> {
-        match self.append(output, command, basis, paths) {
-            Ok(kept) => Ok(keep_reply(kept, output, command, basis, paths)),
+        let begin = self.begin_of(output);
+        match self.append(output, command, basis, begin, paths) {
+            Ok(kept) => {
+                self.warn_of_future(output, basis, begin, paths);
+                Ok(keep_reply(kept, output, command, basis, paths))
+            }
             Err(fault) => {
                 say(&self.rt, "can't keep the entry of", output, fault);
                 fault.or_reply(Reply::Fault)

@@ -5,6 +5,7 @@ use crate::recompact;
 use crate::record_file::{RecordFile, load_file};
 use std::fs::{File, Metadata, OpenOptions};
 use std::io::{self, ErrorKind, SeekFrom};
+use std::process::Stdio;
 use std::sync::atomic::{AtomicU64, Ordering};
 
 /// A file that takes a number of bytes and then fails once, and that can't be cut a number of times.
@@ -77,6 +78,10 @@ impl SharedFile for Failing {
 
     fn unlock(&self) -> io::Result<()> {
         Ok(())
+    }
+
+    fn as_input(&self) -> io::Result<Stdio> {
+        Ok(Stdio::null())
     }
 }
 
