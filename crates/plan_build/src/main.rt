@@ -126,7 +126,8 @@ fn missing<R: Files>(rt: &R, manifest: &[u8]) -> Option<ErrorKind> {
 type SystemWorld<'a> = RealWorld<HostRuntime, BuildShells<'a, HostRuntime>>;
 
 /// Opens the world of real files and commands, with the record in the folder of the build. If the manifest is missing,
-/// no record is created. The outputs of commands are held in `outputs`. `watcher` stops them if this builder ends early.
+/// no record is created. The outputs of commands are held in `outputs`. `watcher` stops them if this builder ends
+/// early.
 ///
 /// # Errors
 /// The exit status if the world can't be opened. The reason is reported on standard error.

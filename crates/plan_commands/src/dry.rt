@@ -157,10 +157,10 @@ fn build_dry<
     }
 }
 
-/// Prints the marks of a build of a manifest's targets by a format, but runs no command and keeps no entry. Asks the world
-/// only for files and the record. Each command counts as one that ended with status 0, and leaves its outputs as they
-/// are. So an edge that uses outputs of a `restat` edge is listed only if it is out of date already. Returns how the
-/// build ended, the printer, and the numbers of commands that were listed.
+/// Prints the marks of a build of a manifest's targets by a format, but runs no command and keeps no entry. Asks the
+/// world only for files and the record. Each command counts as one that ended with status 0, and leaves its outputs as
+/// they are. So an edge that uses outputs of a `restat` edge is listed only if it is out of date already. Returns how
+/// the build ended, the printer, and the numbers of commands that were listed.
 ///
 /// If the command of the edge that makes the manifest would run, the build ends after it, as `Built`: the content of
 /// the new manifest isn't known. The build never ends as `NeverSettles`.

@@ -98,7 +98,8 @@ fn add_recorded(rows: &mut RowList<u8>, paths: &PathList) -> Result<(), AllocErr
     Ok(())
 }
 
-/// Returns the edge of a manifest with this number, and its layout among all layouts. Returns None if it has no command.
+/// Returns the edge of a manifest with this number, and its layout among all layouts. Returns None if it has no
+/// command.
 fn command_edge<'a>(
     manifest: &'a Manifest,
     layouts: &'a [EdgeLayout],
@@ -188,8 +189,8 @@ fn sentence_on(
     Ok(Some(sentence(alloc, &names, reason)?))
 }
 
-/// Returns the sentence that says why a command is going to run, by what its edge has observed. Returns None if there is
-/// no reason: the edge is up to date, or has no command.
+/// Returns the sentence that says why a command is going to run, by what its edge has observed. Returns None if there
+/// is no reason: the edge is up to date, or has no command.
 fn sentence_for(
     alloc: Global,
     manifest: &Manifest,
@@ -266,8 +267,8 @@ impl Explainer {
     }
 }
 
-/// Sets the explainer to that of a manifest if the world observes edges. If memory runs out, no command is explained. If
-/// the world doesn't observe edges, frees the manifest.
+/// Sets the explainer to that of a manifest if the world observes edges. If memory runs out, no command is explained.
+/// If the world doesn't observe edges, frees the manifest.
 pub(crate) fn keep_to_explain<W: World>(
     alloc: Global,
     manifest: Manifest,

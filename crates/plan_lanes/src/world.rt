@@ -55,8 +55,8 @@ pub trait World {
     fn recall(&self, number: u64, output: &[u8]) -> Result<Reply, AllocError>
         ensures { IfOk result (λ r. Self.allows number (Recall output.now) r) };
 
-    /// Ends the entry of an output for this build: its edge is out of date until its command has begun again. The record
-    /// stays as it is. A world without a record does nothing.
+    /// Ends the entry of an output for this build: its edge is out of date until its command has begun again. The
+    /// record stays as it is. A world without a record does nothing.
     ///
     /// # Errors
     /// `AllocError` if memory runs out. The entry may not have ended then.

@@ -30,14 +30,14 @@ pub fn loaded_manifests_are_sound<S: Source>()
     manifests_are_sound();
 }
 
-/// Proves that a sound manifest stays sound if the paths that are added to its edges are outputs of its edges, or canonical
-/// and within their limit.
+/// Proves that a sound manifest stays sound if the paths that are added to its edges are outputs of its edges, or
+/// canonical and within their limit.
 pub fn extended_is_sound()
     ensures { ExtendedIsSound }
 {}
 
-/// Proves that additions change neither the number of edges nor their commands: each edge differs at most in its implicit
-/// outputs and inputs and its order-only inputs.
+/// Proves that additions change neither the number of edges nor their commands: each edge differs at most in its
+/// implicit outputs and inputs and its order-only inputs.
 pub fn extended_runs_the_same()
     ensures { ExtendedRunsTheSame }
 {}

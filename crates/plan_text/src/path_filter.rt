@@ -7,8 +7,8 @@ use crate::ghost_paths::{GhostPaths, GivenPath};
 use std::alloc::{AllocError, Global};
 use std::marker::Model;
 
-/// A set of paths that may say too often that a path is in it, and never too seldom: a Bloom filter with one bit for each
-/// path. A contract sees the list of the paths that were added.
+/// A set of paths that may say too often that a path is in it, and never too seldom: a Bloom filter with one bit for
+/// each path. A contract sees the list of the paths that were added.
 #[derive(Drop)]
 pub struct PathFilter {
     /// Sixty-four bits each. There is at least one word.
@@ -107,8 +107,8 @@ fn word_count(paths: usize) -> usize
 }
 
 impl PathFilter {
-    /// Creates an empty set with room for this many paths: 32 bits for each, from 4,096 to 67,108,864 bits. More paths may
-    /// be added, and the answers are then less exact.
+    /// Creates an empty set with room for this many paths: 32 bits for each, from 4,096 to 67,108,864 bits. More paths
+    /// may be added, and the answers are then less exact.
     ///
     /// # Errors
     ///

@@ -105,8 +105,8 @@ where
 /// it was started by a command of that builder, it goes on without the lock, since that builder waits for the command.
 ///
 /// # Errors
-/// `Device` if the lock's file, RECORD.lock, can't be opened or locked, if it is a symbolic link, or if the builder that
-/// holds it waits for this one in another folder, and `Memory`.
+/// `Device` if the lock's file, RECORD.lock, can't be opened or locked, if it is a symbolic link, or if the builder
+/// that holds it waits for this one in another folder, and `Memory`.
 pub(crate) fn take_lock<R: Files + Env + Clock + Eprint + AllocGlobal + Clone + Drop>(
     rt: &R,
     record: &str,
@@ -168,9 +168,9 @@ impl<F> BuilderLock<F> {
 }
 
 impl<F: SharedFile> BuilderLock<F> {
-    /// Returns the standard input of a command: the file of the lock, which the command then shares. So no other builder
-    /// takes the lock until this one has released it, or until the last command has ended, if this builder is killed.
-    /// A builder without the lock shares it by its own standard input, if that holds it.
+    /// Returns the standard input of a command: the file of the lock, which the command then shares. So no other
+    /// builder takes the lock until this one has released it, or until the last command has ended, if this builder is
+    /// killed. A builder without the lock shares it by its own standard input, if that holds it.
     pub(crate) fn input(&self) -> io::Result<Stdio> {
         match &self.file {
             Some(file) => file.as_input(),

@@ -5,8 +5,8 @@ use crate::processes::{FileName, Process, all_processes, has_opened, own_line, w
 use std::alloc::AllocError;
 use std::rt::Files;
 
-/// Checks whether the builder that holds this lock waits for this builder: it, or a process below it, waits for the lock
-/// of a builder that is above this one. `above` has the names of the builders above.
+/// Checks whether the builder that holds this lock waits for this builder: it, or a process below it, waits for the
+/// lock of a builder that is above this one. `above` has the names of the builders above.
 pub(crate) fn waits_for_this<R: Files + AllocGlobal + Clone + Drop>(
     rt: &R,
     file: FileName,
@@ -52,8 +52,8 @@ fn waits_for_one<R: Files + AllocGlobal>(
     Ok(false)
 }
 
-/// Checks whether a process has opened the file of a lock, but not as its standard input. A builder has done so while it
-/// waits for the lock.
+/// Checks whether a process has opened the file of a lock, but not as its standard input. A builder has done so while
+/// it waits for the lock.
 fn waits_for<R: Files + AllocGlobal>(
     rt: &R,
     process: u64,

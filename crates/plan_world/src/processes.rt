@@ -35,7 +35,8 @@ pub(crate) fn number_in(word: &[u8]) -> Option<u64> {
     }
 }
 
-/// Returns a field after the name of a process, in its line of /proc/PID/stat: the state is field 1, its parent field 2.
+/// Returns a field after the name of a process, in its line of /proc/PID/stat: the state is field 1, its parent field
+/// 2.
 fn field(line: &[u8], place: usize) -> Option<&[u8]> {
     part_at(after_name(line)?, b' ', place)
 }

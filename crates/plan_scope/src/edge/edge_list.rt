@@ -64,12 +64,13 @@ impl EdgeList {
         }
     }
 
-    /// Adds paths to the edge with the addition's number, if there is one. The paths that the edge has are copied, so that
-    /// they and the new ones follow one another.
+    /// Adds paths to the edge with the addition's number, if there is one. The paths that the edge has are copied, so
+    /// that they and the new ones follow one another.
     ///
     /// # Errors
     ///
-    /// `AllocError` if memory runs out, or if all edges then had more than 4,294,967,295 paths. The edges stay as they are.
+    /// `AllocError` if memory runs out, or if all edges then had more than 4,294,967,295 paths. The edges stay as they
+    /// are.
     pub fn extend(&mut self, alloc: Global, addition: &Addition) -> Result<(), AllocError>
         ensures added { OnOk result (self.new ≡ changed_at addition.now.edge (added addition.now) self.old) }
         ensures same { OnErr result (self.new ≡ self.old) }

@@ -68,8 +68,8 @@ fn copy_list(
     row_count(rows)
 }
 
-/// Appends copies of the rows with the numbers from `start` up to, but not including, `end`, and then more rows. Returns
-/// the number of all rows.
+/// Appends copies of the rows with the numbers from `start` up to, but not including, `end`, and then more rows.
+/// Returns the number of all rows.
 fn put_list(
     rows: &mut RowList<u8>,
     start: u32,

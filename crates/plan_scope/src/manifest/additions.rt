@@ -12,7 +12,8 @@ impl Manifest {
     ///
     /// # Errors
     ///
-    /// `AllocError` if memory runs out, or if all edges then had more than 4,294,967,295 paths. The manifest stays as it is.
+    /// `AllocError` if memory runs out, or if all edges then had more than 4,294,967,295 paths. The manifest stays as
+    /// it is.
     pub fn extend(&mut self, alloc: Global, addition: &Addition) -> Result<(), AllocError>
         ensures added { OnOk result (self.new ≡ with_addition self.old addition.now) }
         ensures same { OnErr result (self.new ≡ self.old) }
