@@ -9,4 +9,5 @@ pub mod RankLaw
 pub mod InputLemmas
 pub mod NumberLemmas
 pub mod EdgeLaws
+pub mod FurtherWaitLemmas
 pub mod Rows

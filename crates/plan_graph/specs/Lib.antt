@@ -6,4 +6,5 @@ pub mod Graph
 pub mod Reading
 pub mod Fitting
 pub mod Walking
+pub mod FurtherWaits
 pub mod Laws

@@ -7,6 +7,7 @@ mod cycle;
 mod edge_reader;
 mod fault;
 mod files;
+mod further_waits;
 mod graph_data;
 mod laws;
 mod walk;
@@ -14,6 +15,7 @@ mod walk;
 pub use build_graph::graph;
 pub use fault::GraphFault;
 pub use files::{Files, Key};
+pub use further_waits::{Wait, cycle_with};
 pub use graph_data::{Graph, MAX_EDGES};
 pub use laws::{
     defaults_ascend, files_complete, files_distinct, producers_numbered, producers_waited,
