@@ -5,5 +5,6 @@ pub mod FrontLemmas
 pub mod RecordLemmas
 pub mod CompactionLemmas
 pub mod PathsLemmas
+mod AmongLemmas
 pub mod AddedLemmas
 mod Rows

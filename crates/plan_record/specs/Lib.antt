@@ -5,5 +5,6 @@ pub mod Entry
 pub mod Compaction
 pub mod Outputs
 pub mod Paths
+pub mod Among
 pub mod Appending
 pub mod Added

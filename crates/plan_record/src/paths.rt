@@ -1,13 +1,14 @@
 //! The paths of an entry.
 
-ghost use Rattle.std.specs.Prelude.{◌≡◌, ◌≤◌, ◌<◌, ◌-◌, IfOk, Some, length, drop, map, option_map, slice_get, take};
+ghost use Rattle.std.specs.Prelude.{◌≡◌, ◌≤◌, ◌<◌, ◌-◌, IfOk, OnOk, Some, length, drop, map, option_map, slice_get, take};
 ghost use Rattle.plan_text.specs.SharedRows.{row_in};
+ghost use Rattle.plan_record.specs.Among.{AddsWanted, AreAmong};
 ghost use Rattle.plan_record.specs.Paths.{paths_in, ArePaths};
 ghost use Rattle.plan_record.specs.Reading.{some_paths_at};
 
 use crate::entry::bytes_from;
 use crate::reading::read_path;
-use plan_text::{Place, SharedRows};
+use plan_text::{PathFilter, Place, RowList, SharedRows};
 use std::alloc::{AllocError, Global};
 use std::marker::Model;
 use std::sync::Arc;
@@ -82,6 +83,38 @@ fn places_of(alloc: Global, bytes: &[u8], count: u32) -> Result<Vec<Place>, Allo
     Ok(places)
 }
 
+/// Appends a path if it may be in a set.
+fn push_wanted(found: &mut RowList<u8>, path: &[u8], wanted: &PathFilter) -> Result<(), AllocError>
+    ensures { OnOk result (AddsWanted wanted.now path.now found.old found.new) }
+{
+    if wanted.may_have(path) {
+        found.push(path)?;
+    }
+    Ok(())
+}
+
+/// Returns those of `count` paths, which must be there, that may be in a set.
+#[tactic(auto, using(crate::proofs::AmongLemmas::none_found))]
+fn among_of(
+    alloc: Global,
+    bytes: &[u8],
+    count: u32,
+    wanted: &PathFilter,
+) -> Result<RowList<u8>, AllocError>
+    requires { ArePaths count bytes.now }
+    ensures { IfOk result (λ found. AreAmong wanted.now (paths_in (some_paths_at count bytes.now)) found) }
+{
+    let mut found = RowList::new(alloc);
+    let mut start = 0usize;
+    for taken in 0..count {
+        let rest = bytes_from(bytes, start);
+        let len = first_len(rest, count - taken);
+        push_wanted(&mut found, &rest[2..len], wanted)?;
+        start += len;
+    }
+    Ok(found)
+}
+
 impl Paths {
     ghost use Rattle.std.specs.Arc.{arc_value};
 
@@ -111,6 +144,23 @@ impl Paths {
         let len = first_len(bytes_from(&self.file, self.start), self.count);
         self.start += len;
         self.count -= 1;
+    }
+
+    /// Returns those of the remaining paths that may be in a set, in their order. The set may say too often that it
+    /// has a path.
+    ///
+    /// # Errors
+    ///
+    /// `AllocError` if memory runs out.
+    pub fn among(&self, alloc: Global, wanted: &PathFilter) -> Result<RowList<u8>, AllocError>
+        ensures { IfOk result (λ found. AreAmong wanted.now self.now found) }
+    {
+        among_of(
+            alloc,
+            bytes_from(&self.file, self.start),
+            self.count,
+            wanted,
+        )
     }
 
     /// Returns the paths as rows of the same bytes.
