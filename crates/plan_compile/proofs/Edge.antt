@@ -17,17 +17,17 @@ use Rattle.plan_compile.specs.declared.layout.CommandLayout.{CommandLayout}
 use Rattle.plan_compile.specs.declared.layout.GatherLayout.{GatherLayout}
 use Rattle.plan_compile.specs.declared.layout.EdgeLayout.{EdgeLayout}
 use Rattle.plan_compile.specs.declared.layout.EdgeLayout.TheVariants as layout
-use Rattle.plan_compile.specs.InteractionTree.{Left, InteractionTree, Ask, Over, Obeys}
-use Rattle.plan_compile.specs.Rule.{Given, Command, Recorded, asked, inputs, greatest, least, some_changed, is_new, paths_in, is_dirty, name, recalled, stamps, alone, gathers, does, does_phony}
+use Rattle.plan_compile.specs.InteractionTree.{Left, InteractionTree, Ask, Obeys}
+use Rattle.plan_compile.specs.Rule.{Given, Command, Recorded, asked, inputs, greatest, least, is_new, paths_in, is_dirty, name, recalled, stamps, own_files, alone, gathers, does, does_phony}
 use Rattle.plan_compile.specs.Emit.{compares_basis, has_source_file, before_sweep_code, front, oldest_code, under_code, ready_code, ready_len, skip_code, clean_code, dirty_code, age_test_code, same_command_code, dirty_place, other_code, same_place, compare_code, known_place, pass_code, from_entry_code, alone_code, gather_code, code_of}
 use Rattle.plan_compile.specs.Means.{command_of, phony_of, flag_at, flags_of, given, source_file, Leaves, IsGather, IsAlone, IsLaidOut, CodeMeans}
 use Rattle.plan_compile.specs.Laws.{CommandMeans, PhonyMeans}
-use Rattle.plan_compile.proofs.LaidOut.{Wired, laid_out, files, readable, writable, of_two_kinds, flags_readable, flags_lent, any_same, changed_is, kinds_differ}
+use Rattle.plan_compile.proofs.LaidOut.{Wired, laid_out, files, have_paths, readable, writable, of_two_kinds, flags_readable, flags_lent, any_same, changed_is, kinds_differ}
 use Rattle.plan_compile.proofs.Machine.{From, plain, load, store, recall, jump, jump_if, entry_values}
 use Rattle.plan_compile.proofs.Folds.{Hold, IsPositive, stored, own_slot, order_all, newest_all, stat_all, oldest_all, rerun_flag_all}
 use Rattle.plan_compile.proofs.SlotFacts.{get_same, get_other, set_length, stored_length, stored_other, stored_hold, foreign_no_stamp, own_within}
 use Rattle.plan_compile.proofs.Judging.{basis_in, earlier_same}
-use Rattle.plan_compile.proofs.Placed.{alone_means, gather_means}
+use Rattle.plan_compile.proofs.Placed.{alone_means, gathered, gather_means}
 use Rattle.plan_compile.proofs.Placing.{from_entry_stands, age_test_stands, same_stands, known_stands, baseline_stands, passed_stands, dirty_stands, run_stands}
 use Rattle.plan_compile.proofs.Whole.{app_long, ready_long, hold_some, Ready, Gives, below, below_roomy, age_test_all, same_command_by, weighs, other_all, same_all, drop_two, ends_as}
 
@@ -225,19 +225,19 @@ command_means p e w is right meaning slots order_only typed lent given_is =
 -- the code of a phony with inputs
 pub gathers_means : (p : Parts) (e : ℕ) (g : GatherLayout) → code p e ≡ gather_code g → IsGather p e g → CodeMeans p e (layout.Gather g)
 gathers_means p e g is right meaning slots order_only typed lent given_is =
-    let c : Command = phony_of p slots g.named g.outputs order_only in
-    let after : List ℕ → InteractionTree = λ ignored. inputs c.named (λ ts. Over false (map (λ path. (greatest ts, some_changed c.named)) c.outputs)) in
+    let c : Command = phony_of p slots g.named g.outputs g.baseline order_only in
+    let after : List ℕ → InteractionTree = λ ignored. inputs c.named (λ ts. own_files c.baseline c.outputs (gathered meaning p e g slots ts)) in
     let obeys = gather_means meaning p e g slots is typed.table right.own
     (readable p e slots typed lent g.named right.named) (flags_readable p e slots typed lent g.flags (flags_lent p e g.named g.flags right.named right.flags))
     (any_same (λ s. flag_at slots s) g.flags (flags_of g.named) right.flags ∙ changed_is p e slots typed lent g.named) (files p e g.order_only right.order_only)
-    right.share right.stamp.0 right.changed.0 (λ same. kinds_differ p g.changed g.stamp right.changed.1 right.stamp.1 (sym same)) in
+    (have_paths p e g.outputs right.files) right.share right.stamp.0 right.changed.0 (λ same. kinds_differ p g.changed g.stamp right.changed.1 right.stamp.1 (sym same)) in
     subst (λ (t : InteractionTree). Obeys meaning p e (Leaves g.outputs) (at_begin slots) t) (sym (ap (λ (b : Bool). if b then alone c.outputs else gathers c) given_is.1))
     (subst (λ (gs : List Given). Obeys meaning p e (Leaves g.outputs) (at_begin slots) (inputs gs after)) (sym given_is.0) obeys)
 
 -- the code of a phony without inputs
 pub lone_means : (p : Parts) (e : ℕ) (outputs : List Output) → code p e ≡ alone_code outputs → IsAlone p e outputs → CodeMeans p e (layout.Alone outputs)
 lone_means p e outputs is right meaning slots order_only typed lent none =
-    subst (λ (gs : List Given). Obeys meaning p e (Leaves outputs) (at_begin slots) (does_phony (phony_of p slots [] outputs gs))) (sym none)
+    subst (λ (gs : List Given). Obeys meaning p e (Leaves outputs) (at_begin slots) (does_phony (phony_of p slots [] outputs Outputs gs))) (sym none)
     (alone_means meaning p e outputs right.own slots is typed.table (writable p e outputs right.outputs) right.apart (of_two_kinds p e outputs right.outputs) right.flags)
 
 pub phony_means : PhonyMeans

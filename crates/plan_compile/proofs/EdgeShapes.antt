@@ -22,8 +22,8 @@ use Rattle.plan_compile.specs.declared.layout.Input.TheVariants.{File, Made}
 use Rattle.plan_compile.specs.declared.layout.Output.{Output}
 use Rattle.plan_compile.specs.declared.layout.CommandLayout.{CommandLayout}
 use Rattle.plan_compile.specs.declared.layout.GatherLayout.{GatherLayout}
-use Rattle.plan_compile.specs.Emit.{compares_basis, has_source_file, order_code, newer_code, newest_code, or_code, any_code, stat_code, older_code, oldest_code, rerun_flag_code, before_sweep_code, front, flag_code, holders, restat_code, after_code, same_code, under_code, ready_code, ready_len, skip_code, clean_code, clean_len, deps_code, run_code, dirty_code, age_test_code, same_command_code, dirty_place, other_code, same_place, compare_code, known_place, pass_code, from_entry_code, alone_code, gather_code}
-use Rattle.plan_compile.specs.Means.{IsText, IsOwnOf, IsLentOf, AreInputs, AreSourceFiles, AreOutputs, ShareFlag, HaveFlagSlots, slots_of, IsCommand, IsGather, IsAlone}
+use Rattle.plan_compile.specs.Emit.{compares_basis, has_source_file, order_code, newer_code, newest_code, or_code, any_code, stat_code, older_code, oldest_code, rerun_flag_code, before_sweep_code, front, flag_code, holders, restat_code, after_code, same_code, under_code, ready_code, ready_len, skip_code, clean_code, clean_len, deps_code, run_code, dirty_code, age_test_code, same_command_code, dirty_place, other_code, same_place, compare_code, known_place, pass_code, from_entry_code, files_code, own_files_code, alone_code, gather_code}
+use Rattle.plan_compile.specs.Means.{IsText, IsOwnOf, IsLentOf, AreInputs, AreSourceFiles, AreOutputs, HaveFiles, ShareFlag, HaveFlagSlots, slots_of, IsCommand, IsGather, IsAlone}
 use Rattle.plan_compile.proofs.LaidOut.{or_cases, or_right, flags_lent}
 use Rattle.plan_compile.proofs.Machine.{drop_length}
 use Rattle.plan_compile.proofs.SlotFacts.{and_both}
@@ -216,6 +216,18 @@ module _ (p : Parts) (e : ℕ) where
   newest_fit (File x ∷ is) rest set ok some f =
       go_on (op.Need x) (sh ([]) false set) (sh (Stamp ∷ []) false set) (λ at. refl) (λ at. refl) (λ at. refl) refl (refl, ok.0, refl, refl, refl, refl, refl, refl, refl, refl) tt (some_app (newer_code is) rest some) (newer_fit is rest set ok.1 some f)
   newest_fit (Made st ch ∷ is) rest set ok some f = load_lent st Stamp ok.0.0 refl tt (some_app (newer_code is) rest some) (newer_fit is rest set ok.1 some f)
+
+  pub files_fit : (os : List Output) (rest : List Instr) (set : List ℕ) → HaveFiles p os → 0 < length rest → Fit p e rest (sh (Stamp ∷ []) false set) [] → Fit p e (files_code os ++ rest) (sh (Stamp ∷ []) false set) []
+  unfolding left
+  files_fit [] rest set ok some f = f
+  files_fit (o ∷ os) rest set ok some f =
+      go_on (op.Stat o.file) (sh (Stamp ∷ []) false set) (sh (Stamp ∷ Stamp ∷ []) false set) (λ at. refl) (λ at. refl) (λ at. refl) refl (refl, ok.0, refl, refl, refl, refl, refl, refl, refl, refl) tt (omega arith)
+      (go_on op.Newer (sh (Stamp ∷ Stamp ∷ []) false set) (sh (Stamp ∷ []) false set) (λ at. refl) (λ at. refl) (λ at. refl) refl (refl, refl, refl, refl, refl, refl, refl, refl, refl, refl) tt (some_app (files_code os) rest some) (files_fit os rest set ok.1 some f))
+
+  pub own_files_fit : (b : Baseline) (os : List Output) (rest : List Instr) (set : List ℕ) → HaveFiles p os → 0 < length rest → Fit p e rest (sh (Stamp ∷ []) false set) [] → Fit p e (own_files_code b os ++ rest) (sh (Stamp ∷ []) false set) []
+  own_files_fit Outputs os rest set ok some f = f
+  own_files_fit Basis os rest set ok some f = files_fit os rest set ok some f
+  own_files_fit OutputsAndBasis os rest set ok some f = files_fit os rest set ok some f
 
   pub stat_fit : (os : List Output) (rest : List Instr) (set : List ℕ) → AreOutputs p e os → 0 < length rest → Fit p e rest (sh [] false (stamps_set set os)) [] → Fit p e (stat_code os ++ rest) (sh [] false set) []
   unfolding left
@@ -679,11 +691,14 @@ module _ (p : Parts) (e : ℕ) where
   gather_fit g right all =
       let back : List Instr = op.Store g.changed ∷ op.End ∷ [] in
       let flags : List Instr = any_code g.flags ++ back in
-      order_fit g.order_only (newest_code g.named ++ (op.Store g.stamp ∷ flags)) [] right.order_only (some_app (newest_code g.named) (op.Store g.stamp ∷ flags) (omega arith))
-      (newest_fit g.named (op.Store g.stamp ∷ flags) [] right.named (omega arith)
+      let own : List Instr = own_files_code g.baseline g.outputs ++ (op.Store g.stamp ∷ flags) in
+      let some : 0 < length own = some_app (own_files_code g.baseline g.outputs) (op.Store g.stamp ∷ flags) (omega arith) in
+      order_fit g.order_only (newest_code g.named ++ own) [] right.order_only (some_app (newest_code g.named) own some)
+      (newest_fit g.named own [] right.named some
+      (own_files_fit g.baseline g.outputs (op.Store g.stamp ∷ flags) [] right.files (omega arith)
       (store_own g.stamp Stamp right.stamp refl tt (some_app (any_code g.flags) back (omega arith))
       (any_fit g.flags back (with_member g.stamp []) [] [] refl (flags_lent p e g.named g.flags right.named right.flags) (λ xs le. tt) (omega arith)
-      (store_own g.changed Flag right.changed refl tt (omega arith) (ends (with_member g.changed (with_member g.stamp [])) all)))))
+      (store_own g.changed Flag right.changed refl tt (omega arith) (ends (with_member g.changed (with_member g.stamp [])) all))))))
 
 -- ---- edges
 
@@ -719,8 +734,9 @@ gather_shaped p e g is right tables =
       ]
     ]) right.own in
     let back : List Instr = any_code g.flags ++ (op.Store g.changed ∷ op.End ∷ []) in
+    let own : List Instr = own_files_code g.baseline g.outputs ++ (op.Store g.stamp ∷ back) in
     shaped_by p e (gather_code g) is
-    (some_app (order_code g.order_only) (newest_code g.named ++ (op.Store g.stamp ∷ back)) (some_app (newest_code g.named) (op.Store g.stamp ∷ back) (omega arith)))
+    (some_app (order_code g.order_only) (newest_code g.named ++ own) (some_app (newest_code g.named) own (some_app (own_files_code g.baseline g.outputs) (op.Store g.stamp ∷ back) (omega arith))))
     (gather_fit p e g right all) tables
 
 pub alone_shaped : (p : Parts) (e : ℕ) (outputs : List Output) → code p e ≡ alone_code outputs → IsAlone p e outputs → table_refusal p e ≡ None → IsShapedEdge p e

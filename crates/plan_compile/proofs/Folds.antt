@@ -11,14 +11,16 @@ use Rattle.plan_verify.specs.declared.value.Value.{Value}
 use Rattle.plan_verify.specs.declared.value.Value.TheVariants.{Stamp, Flag}
 use Rattle.plan_verify.specs.Tables.{owned_by}
 use Rattle.plan_verify.specs.Turn.{Slots, Meaning, earlier, later}
+use Rattle.plan_compile.specs.declared.baseline.Baseline.{Baseline}
+use Rattle.plan_compile.specs.declared.baseline.Baseline.TheVariants.{Outputs, Basis, OutputsAndBasis}
 use Rattle.plan_compile.specs.declared.layout.Input.{Input}
 use Rattle.plan_compile.specs.declared.layout.Input.TheVariants.{File, Made}
 use Rattle.plan_compile.specs.declared.layout.Output.{Output}
 use Rattle.plan_compile.specs.InteractionTree.{Left, InteractionTree}
-use Rattle.plan_compile.specs.Rule.{inputs, stamps, greatest_from, greatest, least_from, least}
-use Rattle.plan_compile.specs.Emit.{has_source_file, order_code, newer_code, newest_code, or_code, any_code, stat_code, older_code, oldest_code, rerun_flag_code, flag_code}
+use Rattle.plan_compile.specs.Rule.{inputs, stamps, greatest_from, greatest, least_from, least, own_files}
+use Rattle.plan_compile.specs.Emit.{has_source_file, order_code, newer_code, newest_code, or_code, any_code, stat_code, older_code, oldest_code, rerun_flag_code, flag_code, files_code, own_files_code}
 use Rattle.plan_compile.specs.Means.{path_at, stamp_at, flag_at, given, source_file, output_path}
-use Rattle.plan_compile.proofs.LaidOut.{AreReadable, AreFlags, AreFiles, AreWritable, some_flag}
+use Rattle.plan_compile.proofs.LaidOut.{AreReadable, AreFlags, AreFiles, HavePaths, AreWritable, some_flag}
 use Rattle.plan_compile.proofs.Machine.{From, need, stat, load, store, plain}
 
 -- a stack with room for a few more values
@@ -127,6 +129,22 @@ module _ (meaning : Meaning) (p : Parts) (e : ℕ) (L : Slots → Left → Type 
       load meaning p e L st (Stamp (stamp_at slots st)) readable.0.0 refl
       (newer_all is (stamp_at slots st) (λ ts. k (stamp_at slots st ∷ ts)) readable.1
       (λ ts fact. from_zero (stamp_at slots st) ts (h (stamp_at slots st ∷ ts) (λ has. subst (λ (a : ℕ). 0 < greatest_from a ts) (sym (later_zero (stamp_at slots st))) (fact (inr has))))))
+
+  -- the greatest of a stamp and those of the outputs' files
+  pub files_all : {rest : List Instr} {slots : Slots} {holding ran : Bool} (os : List Output) (a : ℕ) (k : List ℕ → InteractionTree) → HavePaths p os
+      → ((ts : List ℕ) → From meaning p e L rest (Stamp (greatest_from a ts) ∷ []) slots holding ran (k ts))
+      → From meaning p e L (files_code os ++ rest) (Stamp a ∷ []) slots holding ran (stamps (map (output_path p) os) k)
+  files_all [] a k paths h = h []
+  files_all (o ∷ os) a k paths h =
+      stat meaning p e L o.file (output_path p o) paths.0 (λ n. refl) λ n.
+      plain meaning p e L op.Newer (Stamp n ∷ Stamp a ∷ []) (Stamp (later a n) ∷ []) (λ l. refl) refl refl (files_all os (later a n) (λ ts. k (n ∷ ts)) paths.1 (λ ts. h (n ∷ ts)))
+
+  pub own_files_all : {rest : List Instr} {slots : Slots} {holding ran : Bool} (b : Baseline) (os : List Output) (a : ℕ) (k : List ℕ → InteractionTree) → HavePaths p os
+      → ((ts : List ℕ) → From meaning p e L rest (Stamp (greatest_from a ts) ∷ []) slots holding ran (k ts))
+      → From meaning p e L (own_files_code b os ++ rest) (Stamp a ∷ []) slots holding ran (own_files b (map (output_path p) os) k)
+  own_files_all Outputs os a k paths h = h []
+  own_files_all Basis os a k paths h = files_all os a k paths h
+  own_files_all OutputsAndBasis os a k paths h = files_all os a k paths h
 
   pub stat_all : {rest : List Instr} {holding ran : Bool} (os : List Output) (slots : Slots) (k : List ℕ → InteractionTree) → AreWritable p e os
       → ((ts : List ℕ) → AreMatched os ts → From meaning p e L rest [] (stored slots os ts) holding ran (k ts))

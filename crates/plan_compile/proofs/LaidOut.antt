@@ -17,7 +17,7 @@ use Rattle.plan_compile.specs.declared.layout.Input.TheVariants.{File, Made}
 use Rattle.plan_compile.specs.declared.layout.Output.{Output}
 use Rattle.plan_compile.specs.declared.layout.CommandLayout.{CommandLayout}
 use Rattle.plan_compile.specs.Rule.{Path, some_changed, first}
-use Rattle.plan_compile.specs.Means.{text_in, path_at, text_at, stamp_in, stamp_at, flag_in, flag_at, given, output_path, IsFile, IsText, IsLentOf, AreInputs, AreSourceFiles, AreOutputs, flags_of, HaveFlags, IsNoStamp, IsNoFlag, AreApart, HaveFlagSlots, slots_of, files_of, AreAllOwn, IsCommand}
+use Rattle.plan_compile.specs.Means.{text_in, path_at, text_at, stamp_in, stamp_at, flag_in, flag_at, given, output_path, IsFile, IsText, IsLentOf, AreInputs, AreSourceFiles, AreOutputs, HaveFiles, flags_of, HaveFlags, IsNoStamp, IsNoFlag, AreApart, HaveFlagSlots, slots_of, files_of, AreAllOwn, IsCommand}
 
 -- ---- the facts about numbers
 
@@ -54,6 +54,10 @@ AreFlags p e slots (s ∷ ss) = (HasFlag slots s × IsForeign p e s) × AreFlags
 abbrev pub AreFiles : Parts → List ℕ → Type 0
 AreFiles p [] = Unit {0}
 AreFiles p (f ∷ fs) = HasPath p f × AreFiles p fs
+
+abbrev pub HavePaths : Parts → List Output → Type 0
+HavePaths p [] = Unit {0}
+HavePaths p (o ∷ os) = HasPath p o.file × HavePaths p os
 
 abbrev pub AreWritable : Parts → ℕ → List Output → Type 0
 AreWritable p e [] = Unit {0}
@@ -184,6 +188,10 @@ module _ (p : Parts) (e : ℕ) where
   pub files : (fs : List ℕ) → AreSourceFiles p fs → AreFiles p fs
   files [] h = tt
   files (f ∷ fs) h = (has_path f h.0, files fs h.1)
+
+  pub have_paths : (os : List Output) → HaveFiles p os → HavePaths p os
+  have_paths [] h = tt
+  have_paths (o ∷ os) h = (has_path o.file h.0, have_paths os h.1)
 
   pub writable : (os : List Output) → AreOutputs p e os → AreWritable p e os
   writable [] h = tt

@@ -16,8 +16,8 @@ use Rattle.plan_compile.specs.declared.layout.Output.{Output}
 use Rattle.plan_compile.specs.declared.slot_pattern.SlotPattern.{SlotPattern}
 use Rattle.plan_compile.specs.declared.slot_pattern.SlotPattern.TheVariants.{OneFlag, OwnFlags, Gathers, Alone}
 use Rattle.plan_compile.specs.Builds.{Build, Builds}
-use Rattle.plan_compile.specs.Means.{text_in, text_at, IsFile, IsText, IsOwnOf, IsLentOf, AreInputs, AreSourceFiles, AreOutputs, flags_of, HaveFlags, HaveFlagSlots, slots_of, files_of, AreAllOwn, IsNoStamp, IsCommand, IsGather, IsAlone, IsLaidOut}
-use Rattle.plan_compile.specs.Slots.{has_none, form_by, form_of, kinds_by, own_kinds, stamps, pairs, outputs_flagged, outputs_apart, outputs_by, made, newest_by, base, all_made, find, input_by, inputs_by, sources, with_flag, flags_from, flags_once}
+use Rattle.plan_compile.specs.Means.{text_in, text_at, IsFile, IsText, IsOwnOf, IsLentOf, AreInputs, AreSourceFiles, AreOutputs, HaveFiles, flags_of, HaveFlags, HaveFlagSlots, slots_of, files_of, AreAllOwn, IsNoStamp, IsCommand, IsGather, IsAlone, IsLaidOut}
+use Rattle.plan_compile.specs.Slots.{has_none, form_by, form_of, kinds_by, own_kinds, stamps, pairs, outputs_flagged, outputs_apart, outputs_by, made, newest_by, outputs_sharing, base, all_made, find, input_by, inputs_by, sources, with_flag, flags_from, flags_once}
 use Rattle.plan_compile.specs.Names.{Text, text_number, unless_empty, texts_by, all_texts, depfile_number, pool_number, used_pools}
 use Rattle.plan_compile.specs.Names.{pool_in as pool_name}
 use Rattle.plan_compile.specs.Images.{is_blank, command_layout, gather_layout, layout_by, layout_of, image_of}
@@ -97,6 +97,12 @@ sources_right t outputs named (f ∷ fs) inside =
     let o = or_false (nat_le (length t.files) f) (list_any (λ g. nat_le (length t.files) g) fs) inside in
     elim (is_some (find f outputs) || is_member f named) as (λ b. AreSourceFiles (image_of t) (if b then sources outputs named fs else f ∷ sources outputs named fs))
     [ true ↦ sources_right t outputs named fs o.1 | false ↦ (o.0, sources_right t outputs named fs o.1) ]
+
+sharing_files : (t : Builds) (stamp changed : ℕ) (fs : List ℕ) → AreInside t fs → HaveFiles (image_of t) (outputs_sharing stamp changed fs)
+sharing_files t stamp changed [] inside = tt
+sharing_files t stamp changed (f ∷ fs) inside =
+    let o = or_false (nat_le (length t.files) f) (list_any (λ g. nat_le (length t.files) g) fs) inside in
+    (o.0, sharing_files t stamp changed fs o.1)
 
 -- ---- the flags of inputs, without repetitions
 
@@ -343,6 +349,7 @@ module _ (t : Builds) (sound : IsSound t) (e : ℕ) (x : Build) (at : IsEdge t e
         named = inputs_right t sound e x at x.named (sound.named e x at) (λ f m. m);
         order_only = sources_right t (all_made zero t.edges) x.named x.order_only (sound.order_only e x at);
         flags = have_flags (inputs_by (all_made zero t.edges) x.named);
+        files = sharing_files t b (suc b) x.outputs (sound.outputs e x at);
         share = sharing_share b (suc b) x.outputs;
         stamp = own_of_held p e Stamp b (first_run p e b Stamp (Flag ∷ []) run);
         changed = own_of_held p e Flag (suc b) (first_run p e (suc b) Flag [] (rest_run p e b Stamp (Flag ∷ []) run));

@@ -13,13 +13,14 @@ use Rattle.plan_verify.specs.Turn.{Slots, Meaning}
 use Rattle.plan_verify.specs.Alone.{at_begin}
 use Rattle.plan_compile.specs.declared.layout.Output.{Output}
 use Rattle.plan_compile.specs.InteractionTree.{Left, InteractionTree, Over, Obeys}
-use Rattle.plan_compile.specs.Rule.{inputs, stamps, greatest, some_changed, changed, alone}
+use Rattle.plan_compile.specs.Rule.{inputs, stamps, greatest_from, greatest, some_changed, changed, own_files, alone}
 use Rattle.plan_compile.specs.declared.layout.GatherLayout.{GatherLayout}
 use Rattle.plan_compile.specs.Emit.{restat_code, alone_code, gather_code}
 use Rattle.plan_compile.specs.Means.{given, source_file, output_path, Leaves, IsNoStamp, IsNoFlag, AreApart, HaveOwnFlags, Share, slots_of}
-use Rattle.plan_compile.proofs.LaidOut.{IsOwn, AreReadable, AreFlags, AreFiles, AreWritable, AreOfTwoKinds, some_flag, or_cases}
+use Rattle.plan_compile.proofs.LaidOut.{IsOwn, AreReadable, AreFlags, AreFiles, HavePaths, AreWritable, AreOfTwoKinds, some_flag, or_cases}
 use Rattle.plan_compile.proofs.Machine.{From, plain, load, stat, store, finish}
-use Rattle.plan_compile.proofs.Folds.{Hold, own_slot, order_all, newest_all, any_all}
+use Rattle.plan_compile.proofs.Folds.{Hold, own_slot, order_all, newest_all, own_files_all, any_all}
+use Rattle.plan_compile.proofs.Judging.{greatest_app}
 use Rattle.plan_compile.proofs.SlotFacts.{get_same, get_other, set_length, own_within, hold_set, left_set, all_set, filled}
 
 -- each output's stamp and flag, stored one after another
@@ -116,34 +117,41 @@ module _ (meaning : Meaning) (p : Parts) (e : ℕ) (g : GatherLayout) where
   shared_left (o ∷ os) slots stamp flag n b share s f =
       (ap (λ (i : ℕ). slice_get slots i) share.0 ∙ s, ap (λ (i : ℕ). slice_get slots i) share.1 ∙ f, shared_left os slots stamp flag n b share.2 s f)
 
+  -- the end, if these are the stamps of the named inputs and of the outputs' files
+  abbrev pub gathered : Slots → (named own : List ℕ) → InteractionTree
+  gathered start named own = Over false (map (λ path. (greatest (named ++ own), some_changed (map (given p start) g.named))) (map (output_path p) g.outputs))
+
   -- a phony with inputs
   pub gather_means : (start : Slots) → code p e ≡ gather_code g → length start ≡ length p.slots → list_all (λ s. is_member s (g.stamp ∷ g.changed ∷ [])) (own_slots p e) ≡ true
       → AreReadable p e start g.named → AreFlags p e start g.flags → some_flag start g.flags ≡ some_changed (map (given p start) g.named) → AreFiles p g.order_only
-      → Share g.stamp g.changed g.outputs → IsOwn p e g.stamp → IsOwn p e g.changed → (g.stamp ≡ g.changed → ⊥)
+      → HavePaths p g.outputs → Share g.stamp g.changed g.outputs → IsOwn p e g.stamp → IsOwn p e g.changed → (g.stamp ≡ g.changed → ⊥)
       → Obeys meaning p e (Leaves g.outputs) (at_begin start)
-      (inputs (map (source_file p) g.order_only) (λ ignored. inputs (map (given p start) g.named) (λ ts. Over false (map (λ path. (greatest ts, some_changed (map (given p start) g.named))) (map (output_path p) g.outputs)))))
-  gather_means start is table own readable flags flags_are files share own_st own_ch apart =
+      (inputs (map (source_file p) g.order_only) (λ ignored. inputs (map (given p start) g.named) (λ ts. own_files g.baseline (map (output_path p) g.outputs) (gathered start ts))))
+  gather_means start is table own readable flags flags_are files paths share own_st own_ch apart =
       (order_all meaning p e (Leaves g.outputs) g.order_only _ files λ ignored.
       newest_all meaning p e (Leaves g.outputs) g.named _ readable λ ts positive.
+      own_files_all meaning p e (Leaves g.outputs) g.baseline g.outputs (greatest ts) (gathered start ts) paths λ us.
+      let newest : ℕ = greatest_from (greatest ts) us in
       let a = own_slot e (slice_get p.slots g.stamp) own_st in
       let b = own_slot e (slice_get p.slots g.changed) own_ch in
       let flag : Bool = some_flag start g.flags in
       let changed_one : Bool = some_changed (map (given p start) g.named) in
-      let one : Slots = slice_set start g.stamp (Some (Stamp (greatest ts))) in
+      let one : Slots = slice_set start g.stamp (Some (Stamp newest)) in
       let two : Slots = slice_set one g.changed (Some (Flag flag)) in
-      let long : length one ≡ length p.slots = set_length start g.stamp (Some (Stamp (greatest ts))) ∙ table in
-      let stamp_lies : slice_get two g.stamp ≡ Some (Some (Stamp (greatest ts))) = get_other one g.changed g.stamp (Some (Flag flag)) apart ∙ get_same start g.stamp (Some (Stamp (greatest ts))) (own_within p e start g.stamp table own_st) in
+      let long : length one ≡ length p.slots = set_length start g.stamp (Some (Stamp newest)) ∙ table in
+      let stamp_lies : slice_get two g.stamp ≡ Some (Some (Stamp newest)) = get_other one g.changed g.stamp (Some (Flag flag)) apart ∙ get_same start g.stamp (Some (Stamp newest)) (own_within p e start g.stamp table own_st) in
+      let stamp_is : slice_get two g.stamp ≡ Some (Some (Stamp (greatest (ts ++ us)))) = stamp_lies ∙ ap (λ (n : ℕ). Some (Some (Stamp n))) (sym (greatest_app 0 ts us)) in
       let flag_lies : slice_get two g.changed ≡ Some (Some (Flag flag)) = get_same one g.changed (Some (Flag flag)) (own_within p e one g.changed long own_ch) in
       let flag_is : slice_get two g.changed ≡ Some (Some (Flag changed_one)) = flag_lies ∙ ap (λ (x : Bool). Some (Some (Flag x))) flags_are in
-      store meaning p e (Leaves g.outputs) g.stamp (Stamp (greatest ts)) a.0 a.1 a.2
+      store meaning p e (Leaves g.outputs) g.stamp (Stamp newest) a.0 a.1 a.2
       (any_all meaning p e (Leaves g.outputs) g.flags start [] refl flags
-      (λ s foreign. get_other start g.stamp s (Some (Stamp (greatest ts))) (λ same. let mine : owned_by e (slice_get p.slots s) ≡ true = subst (λ (i : ℕ). IsOwn p e i) (sym same) own_st in absurd (cc)))
+      (λ s foreign. get_other start g.stamp s (Some (Stamp newest)) (λ same. let mine : owned_by e (slice_get p.slots s) ≡ true = subst (λ (i : ℕ). IsOwn p e i) (sym same) own_st in absurd (cc)))
       (store meaning p e (Leaves g.outputs) g.changed (Flag flag) b.0 b.1 b.2
       (finish meaning p e (Leaves g.outputs) (all_set two (λ s. is_member s (g.stamp ∷ g.changed ∷ [])) (own_slots p e) (λ s h. elim (or_cases (g.stamp == s) ((g.changed == s) || false) h) [
-        | inl at ↦ filled two g.stamp s (Stamp (greatest ts)) stamp_lies at
+        | inl at ↦ filled two g.stamp s (Stamp newest) stamp_lies at
         | inr more ↦ elim (or_cases (g.changed == s) false more) [
           | inl at ↦ filled two g.changed s (Flag flag) flag_lies at
           | inr none ↦ absurd cc
         ]
       ]) own)
-      (shared_left g.outputs two g.stamp g.changed (greatest ts) changed_one share stamp_lies flag_is))))).go 0 is
+      (shared_left g.outputs two g.stamp g.changed (greatest (ts ++ us)) changed_one share stamp_is flag_is))))).go 0 is

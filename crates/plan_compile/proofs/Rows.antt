@@ -232,13 +232,43 @@ user_runs : Follows (does none_read user)
 unfolding user none_read
 user_runs = (refl, (refl, (refl, (refl, (refl, refl)))))
 
--- a phony with inputs has their stamp and flag, and asks for none of its outputs
+-- by the specified rule, a phony with inputs has their stamp and flag, and asks for none of its outputs
 gathers_both : Command
 gathers_both = record { named = MadeBy 8 true ∷ SourceFile 1 c_file ∷ []; order_only = []; outputs = codes "all" ∷ []; command = []; depfile = []; restat = false; generator = false; baseline = baseline.Outputs }
 
 gathered : Follows (does_phony gathers_both) ((Stat c_file, StampIs 5) ∷ []) (Over false ((8, true) ∷ []))
 unfolding gathers_both
 gathered = (refl, refl)
+
+-- by the stricter rule it asks for the files of its outputs, and has the stamp of the latest
+gathers_files : Command
+gathers_files = record {
+  named = MadeBy 8 true ∷ SourceFile 1 c_file ∷ [];
+  order_only = [];
+  outputs = header ∷ object ∷ [];
+  command = [];
+  depfile = [];
+  restat = false;
+  generator = false;
+  baseline = baseline_by false false Stricter;
+}
+
+later_file_counts : Follows (does_phony gathers_files) ((Stat c_file, StampIs 5) ∷ (Stat header, StampIs 9) ∷ (Stat object, StampIs 6) ∷ []) (Over false ((9, true) ∷ (9, true) ∷ []))
+unfolding gathers_files
+later_file_counts = (refl, (refl, (refl, refl)))
+
+-- files that are older or missing change nothing
+older_file_counts_for_nothing : Follows (does_phony gathers_files) ((Stat c_file, StampIs 5) ∷ (Stat header, StampIs 0) ∷ (Stat object, StampIs 6) ∷ []) (Over false ((8, true) ∷ (8, true) ∷ []))
+unfolding gathers_files
+older_file_counts_for_nothing = (refl, (refl, (refl, refl)))
+
+-- a header that a command writes beside its own output: an edit of it is seen, since the phony has its stamp
+uses_header : Command
+uses_header = record { named = MadeBy 9 false ∷ []; order_only = []; outputs = object ∷ []; command = cc_command; depfile = []; restat = false; generator = false; baseline = baseline.OutputsAndBasis }
+
+edit_of_header : Follows (does none_read uses_header) ((Stat object, StampIs 8) ∷ (Recall object, Entry cc_command 7 []) ∷ []) (runs none_read uses_header (9 ∷ []) (8 ∷ []))
+unfolding uses_header cc_command none_read
+edit_of_header = (refl, (refl, refl))
 
 -- a phony whose only input is order-only and produced by an edge has an input
 only_ordered : Command
@@ -387,14 +417,31 @@ alone_row : alone_code (record { file = 7; stamp = 0; changed = 1 } ∷ []) ≡ 
 alone_row = refl
 
 gathering : GatherLayout
-gathering = record { named = File 3 ∷ Made 0 1 ∷ []; order_only = 4 ∷ []; outputs = record { file = 7; stamp = 2; changed = 3 } ∷ []; flags = 1 ∷ []; stamp = 2; changed = 3 }
+gathering = record { named = File 3 ∷ Made 0 1 ∷ []; order_only = 4 ∷ []; outputs = record { file = 7; stamp = 2; changed = 3 } ∷ []; flags = 1 ∷ []; stamp = 2; changed = 3; baseline = baseline.Outputs }
 
 gather_row : gather_code gathering ≡ op.Need 4 ∷ op.Drop ∷ op.Need 3 ∷ op.Load 0 ∷ op.Newer ∷ op.Store 2 ∷ op.Load 1 ∷ op.Store 3 ∷ op.End ∷ []
 unfolding gathering
 gather_row = refl
 
+-- the same by the stricter rule, with two outputs
+looking : GatherLayout
+looking = record {
+  named = File 3 ∷ Made 0 1 ∷ [];
+  order_only = 4 ∷ [];
+  outputs = record { file = 7; stamp = 2; changed = 3 } ∷ record { file = 8; stamp = 2; changed = 3 } ∷ [];
+  flags = 1 ∷ [];
+  stamp = 2;
+  changed = 3;
+  baseline = baseline.OutputsAndBasis;
+}
+
+looking_row : gather_code looking ≡
+    op.Need 4 ∷ op.Drop ∷ op.Need 3 ∷ op.Load 0 ∷ op.Newer ∷ op.Stat 7 ∷ op.Newer ∷ op.Stat 8 ∷ op.Newer ∷ op.Store 2 ∷ op.Load 1 ∷ op.Store 3 ∷ op.End ∷ []
+unfolding looking
+looking_row = refl
+
 ordering : GatherLayout
-ordering = record { named = []; order_only = []; outputs = record { file = 7; stamp = 2; changed = 3 } ∷ []; flags = []; stamp = 2; changed = 3 }
+ordering = record { named = []; order_only = []; outputs = record { file = 7; stamp = 2; changed = 3 } ∷ []; flags = []; stamp = 2; changed = 3; baseline = baseline.Outputs }
 
 ordering_row : gather_code ordering ≡ op.Zero ∷ op.Store 2 ∷ op.Flag false ∷ op.Store 3 ∷ op.End ∷ []
 unfolding ordering
@@ -406,7 +453,7 @@ outputs_alone : List Output
 outputs_alone = record { file = 2; stamp = 3; changed = 4 } ∷ []
 
 gathers_all : GatherLayout
-gathers_all = record { named = Made 0 1 ∷ File 1 ∷ Made 3 4 ∷ []; order_only = []; outputs = record { file = 3; stamp = 5; changed = 6 } ∷ []; flags = 4 ∷ 1 ∷ []; stamp = 5; changed = 6 }
+gathers_all = record { named = Made 0 1 ∷ File 1 ∷ Made 3 4 ∷ []; order_only = []; outputs = record { file = 3; stamp = 5; changed = 6 } ∷ []; flags = 4 ∷ 1 ∷ []; stamp = 5; changed = 6; baseline = baseline.OutputsAndBasis }
 
 slot_of : ℕ → Kind → Slot
 slot_of e k = record { owner = e; kind = k }
@@ -452,6 +499,7 @@ gather_laid_out = record {
   named = (((refl, refl, refl), (refl, refl, refl)), (refl, (((refl, refl, refl), (refl, refl, refl)), tt)));
   order_only = tt;
   flags = λ s. turned (4 == s) (1 == s);
+  files = (refl, tt);
   share = (refl, refl, tt);
   stamp = (refl, refl);
   changed = (refl, refl);

@@ -5,11 +5,12 @@ use Rattle.std.proofs.lemmas.Bool.{eqb-true, eq-eqb}
 use Rattle.plan_image.specs.declared.image.Parts.{Parts}
 use Rattle.plan_verify.specs.Members.{is_member}
 use Rattle.plan_verify.specs.Turn.{Slots, Meaning}
+use Rattle.plan_compile.specs.declared.baseline.Baseline.{Baseline}
 use Rattle.plan_compile.specs.declared.baseline.Baseline.TheVariants as baseline
 use Rattle.plan_compile.specs.declared.layout.Output.{Output}
 use Rattle.plan_compile.specs.declared.slot_pattern.SlotPattern.{SlotPattern}
 use Rattle.plan_compile.specs.declared.slot_pattern.SlotPattern.TheVariants.{OneFlag, OwnFlags, Gathers, Alone}
-use Rattle.plan_compile.specs.Rule.{Path, Given, SourceFile, Command, is_among, asked, does, does_phony}
+use Rattle.plan_compile.specs.Rule.{Path, Given, SourceFile, Command, is_among, asked, alone, gathers, does, does_phony}
 use Rattle.plan_compile.specs.Rule.{has_none as has_none_given}
 use Rattle.plan_compile.specs.Means.{text_in, text_at, given, source_file, output_path, depfile_text, files_of, command_of, rule_of, AreGiven}
 use Rattle.plan_compile.specs.Builds.{Build, Builds}
@@ -102,8 +103,8 @@ module _ (t : Builds) (slots : Slots) where
     order_only = map (told t slots) x.order_only
 
     -- a phony with the given inputs
-    abbrev phony_like : List Given → List Path → Command
-    phony_like named outputs = record { named = named; order_only = order_only; outputs = outputs; command = []; depfile = []; restat = false; generator = false; baseline = baseline.Outputs }
+    abbrev phony_like : Baseline → List Given → List Path → Command
+    phony_like own_baseline named outputs = record { named = named; order_only = order_only; outputs = outputs; command = []; depfile = []; restat = false; generator = false; baseline = own_baseline }
 
     pub command_told : (form : SlotPattern) → x.edge.phony ≡ false
         → command_of (image_of t) slots (command_layout (all_texts t.edges) (all_made zero t.edges) form (base t.edges e) x) order_only ≡ facts t slots x
@@ -147,15 +148,23 @@ module _ (t : Builds) (slots : Slots) where
         ap (does meaning) (command_told OwnFlags forms.0) ∙ ap (λ (b : Bool). edge_does b meaning (facts t slots x)) (sym forms.0)
     rule_told meaning Gathers is =
         let forms = gathers_is x.edge.phony x.edge.restat (has_none x.named && has_none x.order_only) is in
-        ap (λ (gs : List Given). does_phony (phony_like gs (map (output_path (image_of t)) (outputs_by Gathers (base t.edges e) x.outputs)))) (inputs_told x.named)
-        ∙ ap (λ (ps : List Path). does_phony (phony_like (map (told t slots) x.named) ps)) (phony_told Gathers)
+        ap (λ (gs : List Given). does_phony (phony_like x.baseline gs (map (output_path (image_of t)) (outputs_by Gathers (base t.edges e) x.outputs)))) (inputs_told x.named)
+        ∙ ap (λ (ps : List Path). does_phony (phony_like x.baseline (map (told t slots) x.named) ps)) (phony_told Gathers)
         ∙ ap (λ (b : Bool). edge_does b meaning (facts t slots x)) (sym forms.0)
     rule_told meaning Alone is =
         let forms = alone_is x.edge.phony x.edge.restat (has_none x.named && has_none x.order_only) is in
-        ap (λ (ps : List Path). does_phony (phony_like [] ps)) (phony_told Alone)
-        ∙ ap (λ (fs : List ℕ). does_phony (phony_like (map (told t slots) fs) (map (path_in t) x.outputs))) (sym (no_first x.named x.order_only forms.1))
+        let outputs : List Path = map (path_in t) x.outputs in
+        let lone : has_none_given order_only ≡ true = none_told x.order_only ∙ none_second x.named x.order_only forms.1 in
+        ap (λ (ps : List Path). does_phony (phony_like baseline.Outputs [] ps)) (phony_told Alone)
+        ∙ ap (λ (b : Bool). if b then alone outputs else gathers (phony_like baseline.Outputs [] outputs)) lone
+        ∙ sym (ap (λ (b : Bool). if b then alone outputs else gathers (phony_like x.baseline [] outputs)) lone)
+        ∙ ap (λ (fs : List ℕ). does_phony (phony_like x.baseline (map (told t slots) fs) outputs)) (sym (no_first x.named x.order_only forms.1))
         ∙ ap (λ (b : Bool). edge_does b meaning (facts t slots x)) (sym forms.0)
       where
         no_first : (fs gs : List ℕ) → (has_none fs && has_none gs) ≡ true → fs ≡ []
         no_first [] gs h = refl
         no_first (f ∷ fs) gs h = absurd cc
+
+        none_second : (fs gs : List ℕ) → (has_none fs && has_none gs) ≡ true → has_none gs ≡ true
+        none_second [] gs h = h
+        none_second (f ∷ fs) gs h = absurd cc

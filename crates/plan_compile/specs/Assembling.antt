@@ -47,6 +47,7 @@ gather_in table newest x = record {
   flags = flags_once (inputs_in table x.named);
   stamp = newest;
   changed = first_changed (outputs_in table x.outputs);
+  baseline = x.baseline;
 }
 
 abbrev pub layout_in : SlotPattern → Numbers → Table → (newest : ℕ) → Build → EdgeLayout

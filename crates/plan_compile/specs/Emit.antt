@@ -223,10 +223,23 @@ abbrev pub alone_code : List Output → List Instr
 alone_code [] = op.End ∷ []
 alone_code (o ∷ os) = op.Stat o.file ∷ op.Store o.stamp ∷ op.Load o.stamp ∷ op.IsMissing ∷ op.Store o.changed ∷ alone_code os
 
--- with inputs, all outputs have the stamp and the flag of the named ones
+-- the greatest of the stamp on the stack and the stamps of the outputs' files
+abbrev pub files_code : List Output → List Instr
+files_code [] = []
+files_code (o ∷ os) = op.Stat o.file ∷ op.Newer ∷ files_code os
+
+-- the same, unless the files of a phony's outputs aren't asked for
+abbrev pub own_files_code : Baseline → List Output → List Instr
+own_files_code Outputs os = []
+own_files_code Basis os = files_code os
+own_files_code OutputsAndBasis os = files_code os
+
+-- with inputs, all outputs have the newest stamp of the named ones and of their own files, and the flag of the named
+-- ones
 abbrev pub gather_code : GatherLayout → List Instr
 gather_code g =
-    order_code g.order_only ++ (newest_code g.named ++ (op.Store g.stamp ∷ (any_code g.flags ++ (op.Store g.changed ∷ op.End ∷ []))))
+    order_code g.order_only
+    ++ (newest_code g.named ++ (own_files_code g.baseline g.outputs ++ (op.Store g.stamp ∷ (any_code g.flags ++ (op.Store g.changed ∷ op.End ∷ [])))))
 
 -- ---- any edge
 

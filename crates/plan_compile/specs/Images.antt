@@ -54,6 +54,7 @@ gather_layout outputs b x = record {
   flags = flags_once (inputs_by outputs x.named);
   stamp = b;
   changed = suc b;
+  baseline = x.baseline;
 }
 
 abbrev pub layout_by : SlotPattern → List Text → List Output → ℕ → Build → EdgeLayout

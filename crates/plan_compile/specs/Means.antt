@@ -11,6 +11,7 @@ use Rattle.plan_verify.specs.Tables.{path_of, own_slots, owns, is_lent, slot_kin
 use Rattle.plan_verify.specs.Turn.{Slots, Meaning}
 use Rattle.plan_verify.specs.Alone.{at_begin}
 use Rattle.plan_verify.specs.Sound.{AreTyped, AreLentSet}
+use Rattle.plan_compile.specs.declared.baseline.Baseline.{Baseline}
 use Rattle.plan_compile.specs.declared.baseline.Baseline.TheVariants as baseline
 use Rattle.plan_compile.specs.declared.layout.Input.{Input}
 use Rattle.plan_compile.specs.declared.layout.Input.TheVariants.{File, Made}
@@ -78,9 +79,9 @@ command_of p slots w order_only = record {
   baseline = w.baseline;
 }
 
--- a phony: these inputs and outputs, and nothing else
-abbrev pub phony_of : Parts → Slots → List Input → List Output → List Given → Command
-phony_of p slots named outputs order_only = record {
+-- a phony: these inputs and outputs, this baseline, and nothing else
+abbrev pub phony_of : Parts → Slots → List Input → List Output → Baseline → List Given → Command
+phony_of p slots named outputs own_baseline order_only = record {
   named = map (given p slots) named;
   order_only = order_only;
   outputs = map (output_path p) outputs;
@@ -88,14 +89,14 @@ phony_of p slots named outputs order_only = record {
   depfile = [];
   restat = false;
   generator = false;
-  baseline = baseline.Outputs;
+  baseline = own_baseline;
 }
 
 -- the rule of an edge
 abbrev pub rule_of : Meaning → Parts → Slots → List Given → EdgeLayout → InteractionTree
 rule_of meaning p slots order_only (layout.Command w) = does meaning (command_of p slots w order_only)
-rule_of meaning p slots order_only (layout.Gather g) = does_phony (phony_of p slots g.named g.outputs order_only)
-rule_of meaning p slots order_only (layout.Alone outputs) = does_phony (phony_of p slots [] outputs order_only)
+rule_of meaning p slots order_only (layout.Gather g) = does_phony (phony_of p slots g.named g.outputs g.baseline order_only)
+rule_of meaning p slots order_only (layout.Alone outputs) = does_phony (phony_of p slots [] outputs baseline.Outputs order_only)
 
 abbrev pub outputs_in : EdgeLayout → List Output
 outputs_in (layout.Command w) = w.outputs
@@ -155,6 +156,11 @@ IsNoStamp s (o ∷ os) = (s ≡ o.stamp → ⊥) × IsNoStamp s os
 abbrev pub IsNoFlag : ℕ → List Output → Type 0
 IsNoFlag s [] = Unit {0}
 IsNoFlag s (o ∷ os) = (s ≡ o.changed → ⊥) × IsNoFlag s os
+
+-- the files of outputs are files of the image
+abbrev pub HaveFiles : Parts → List Output → Type 0
+HaveFiles p [] = Unit {0}
+HaveFiles p (o ∷ os) = IsFile p o.file × HaveFiles p os
 
 -- no two outputs share a stamp slot
 abbrev pub AreApart : List Output → Type 0
@@ -218,6 +224,7 @@ pub record IsGather (p : Parts) (e : ℕ) (g : GatherLayout) : Type 0 where
   pub named : AreInputs p e g.named
   pub order_only : AreSourceFiles p g.order_only
   pub flags : HaveFlags g.named g.flags
+  pub files : HaveFiles p g.outputs
   pub share : Share g.stamp g.changed g.outputs
   pub stamp : IsOwnOf p e kind.Stamp g.stamp
   pub changed : IsOwnOf p e kind.Flag g.changed

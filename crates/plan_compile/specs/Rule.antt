@@ -219,9 +219,21 @@ has_none (i ∷ is) = false
 abbrev pub alone : List Path → InteractionTree
 alone outputs = stamps outputs λ ts. Over false (map (λ t. (t, t == 0)) ts)
 
--- with inputs, all outputs have the stamp and the flag of the named ones
+-- By the stricter rule, the files of a phony's outputs are asked for too. By the specified rule, a phony has the
+-- baseline Outputs, and none of them is.
+abbrev pub own_files : Baseline → List Path → (List ℕ → InteractionTree) → InteractionTree
+own_files Outputs outputs go = go []
+own_files Basis outputs go = stamps outputs go
+own_files OutputsAndBasis outputs go = stamps outputs go
+
+-- With inputs, all outputs have the flag of the named ones, and the newest stamp of the named ones and of the files
+-- of the outputs that are asked for. A missing file has the stamp 0.
 abbrev pub gathers : Command → InteractionTree
-gathers c = inputs (asked c.named c.order_only) λ _. inputs c.named λ ts. Over false (map (λ path. (greatest ts, some_changed c.named)) c.outputs)
+gathers c =
+    inputs (asked c.named c.order_only) λ _.
+    inputs c.named λ named.
+    own_files c.baseline c.outputs λ own.
+    Over false (map (λ path. (greatest (named ++ own), some_changed c.named)) c.outputs)
 
 -- whether it has inputs is tested on the inputs as given
 abbrev pub does_phony : Command → InteractionTree

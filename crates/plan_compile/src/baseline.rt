@@ -5,7 +5,8 @@
 pub enum OutOfDateRule {
     /// An edge compares its newest input with its oldest output, or with the recorded basis if it is restat.
     Specified,
-    /// An edge that is neither restat nor a generator compares its newest input with both.
+    /// An edge that is neither restat nor a generator compares its newest input with both. A phony with inputs asks for
+    /// the files of its outputs too.
     Stricter,
 }
 

@@ -103,6 +103,7 @@ fn gather_layout<'a>(
         flags,
         stamp: newest,
         changed,
+        baseline: build.baseline(),
     })
 }
 

@@ -10,7 +10,7 @@ use crate::command::{push_from_entry, push_front};
 use crate::fault::CompileFault;
 use crate::inputs::{push_any, push_newest, push_order};
 use crate::layout::{CommandLayout, EdgeLayout, GatherLayout, Output};
-use crate::outputs::push_alone;
+use crate::outputs::{push_alone, push_own_files};
 use plan_image::{Instr, MAX_BODY};
 use std::alloc::{AllocError, Global};
 
@@ -49,6 +49,7 @@ fn push_gather(code: &mut Code, layout: &GatherLayout) -> Result<(), AllocError>
 {
     push_order(code, layout.order_only.as_slice())?;
     push_newest(code, layout.named.as_slice())?;
+    push_own_files(code, layout.baseline, layout.outputs.as_slice())?;
     code.push(Instr::Store(layout.stamp))?;
     push_any(code, layout.flags.as_slice())?;
     code.push(Instr::Store(layout.changed))?;

@@ -45,8 +45,8 @@ pub struct CommandLayout {
     pub baseline: Baseline,
 }
 
-/// A phony with inputs of any sort. Its outputs have the stamp and the flag of the named inputs, and share two
-/// slots.
+/// A phony with inputs of any sort. Its outputs have the newest stamp of the named inputs and of its own files, and the
+/// flag of the named inputs. They share two slots.
 #[derive(Drop)]
 pub struct GatherLayout {
     pub named: Items<Input>,
@@ -59,6 +59,8 @@ pub struct GatherLayout {
     pub stamp: u32,
     /// The flag slot of all outputs.
     pub changed: u32,
+    /// The baseline of the edge. If it is `Outputs`, the files of the outputs aren't asked for.
+    pub baseline: Baseline,
 }
 
 /// An edge of any sort.

@@ -2,9 +2,9 @@
 //! rule requires.
 //!
 //! - `compile` returns the image of a manifest with its graph, or a `CompileFault`.
-//! - `collect_names` returns the `EdgeNames` of a manifest, which don't depend on its graph, and `compile_with` compiles
-//!   with them. So another thread can build the graph meanwhile. `compile_with` generates the codes of edges in up to
-//!   four threads.
+//! - `collect_names` returns the `EdgeNames` of a manifest, which don't depend on its graph, and `compile_with`
+//!   compiles with them. So another thread can build the graph meanwhile. `compile_with` generates the codes of edges
+//!   in up to four threads.
 //! - `EdgeLayout` is an edge by its numbers in an image's tables. It has one variant for each sort of edge:
 //!   `CommandLayout`, `GatherLayout`, or the outputs of a phony without inputs. `Input` and `Output` are its
 //!   inputs and outputs. `layouts` returns the layouts of the edges of a manifest, and by law

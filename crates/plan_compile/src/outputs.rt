@@ -1,8 +1,9 @@
 //! Generates code over the outputs of an edge.
 
 ghost use Rattle.std.specs.Prelude.{◌≡◌, ◌++◌, false, OnOk};
-ghost use Rattle.plan_compile.specs.Emit.{alone_code, flag_code, holders, older_code, oldest_code, restat_code, stat_code};
+ghost use Rattle.plan_compile.specs.Emit.{alone_code, files_code, flag_code, holders, older_code, oldest_code, own_files_code, restat_code, stat_code};
 
+use crate::baseline::Baseline;
 use crate::code::Code;
 use crate::layout::Output;
 use plan_image::Instr;
@@ -101,6 +102,32 @@ pub(crate) fn push_restat(code: &mut Code, outputs: &[Output]) -> Result<(), All
         code.push(Instr::Store(output.changed))?;
     }
     Ok(())
+}
+
+/// Appends code for the greatest of the stamp on the stack and the stamps of the outputs' files.
+fn push_files(code: &mut Code, outputs: &[Output]) -> Result<(), AllocError>
+    ensures { OnOk result (code.new ≡ code.old ++ files_code outputs.now) }
+{
+    for output in outputs {
+        code.push(Instr::Stat(output.file))?;
+        code.push(Instr::Newer)?;
+    }
+    Ok(())
+}
+
+/// Appends code for the same, unless the baseline is that of a phony whose files aren't asked for.
+pub(crate) fn push_own_files(
+    code: &mut Code,
+    baseline: Baseline,
+    outputs: &[Output],
+) -> Result<(), AllocError>
+    ensures { OnOk result (code.new ≡ code.old ++ own_files_code baseline outputs.now) }
+{
+    match baseline {
+        Baseline::Outputs => Ok(()),
+        Baseline::Basis => push_files(code, outputs),
+        Baseline::OutputsAndBasis => push_files(code, outputs),
+    }
 }
 
 /// Appends code that gives each output the stamp of its file, and ends.

@@ -4,8 +4,10 @@ use Rattle.std.specs.Prelude.{◌==◌, ◌&&◌, if◌then◌else◌}
 use Rattle.std.proofs.lemmas.List.{append_assoc}
 use Rattle.plan_verify.specs.declared.value.Cause.{Cause}
 use Rattle.plan_verify.specs.Turn.{Meaning, Request, Stat, Recall, Run, Deps, Keep, Reply as Answer, StampIs, Entry, Nothing, Exit, Signal, NotStarted, Bytes, Kept, Fault}
+use Rattle.plan_compile.specs.declared.baseline.Baseline.{Baseline}
+use Rattle.plan_compile.specs.declared.baseline.Baseline.TheVariants.{Outputs, Basis, OutputsAndBasis}
 use Rattle.plan_compile.specs.InteractionTree.{Left, InteractionTree, Ask, Over, Fail, Follows}
-use Rattle.plan_compile.specs.Rule.{Path, Given, SourceFile, Made, Command, Recorded, needed, stamped, recalled, exited, told_paths, read, kept, inputs, stamps, asked, greatest, is_dirty, paths_in, name, unchanged, changed, depfile, runs, does, has_none, alone, gathers, some_changed}
+use Rattle.plan_compile.specs.Rule.{Path, Given, SourceFile, Made, Command, Recorded, needed, stamped, recalled, exited, told_paths, read, kept, inputs, stamps, asked, greatest, is_dirty, paths_in, name, unchanged, changed, depfile, runs, does, has_none, alone, own_files, gathers, some_changed}
 use Rattle.plan_reasons.specs.Observing.{Exchange, file_exchanges, input_exchanges, AreStamps, Observations, entry_reply, Observes, is_dirty_by}
 use Rattle.plan_laws.specs.Ends.{GivesPaths, ReadsDepfile, RunsNothing, Succeeds, EndsArePlain}
 
@@ -290,14 +292,30 @@ module _ (c : Command) where
       let e = at_end false ran (map (λ (t : ℕ). (t, t == 0)) a.0) left a.1 a.4 in
       (sym e.1, subst RunsNothing (sym a.3) (files_run_nothing c.outputs a.0 a.1 (nothing_more a.1 e.0)))
 
+  abbrev gathered : (named own : List ℕ) → InteractionTree
+  gathered named own = Over false (map (λ (path : Path). (greatest (named ++ own), some_changed c.named)) c.outputs)
+
+  files_end : (named : List ℕ) (told : List Exchange) (ran : Bool) (left : Left) → Follows (stamps c.outputs (gathered named)) told (Over ran left) → (ran ≡ false) × RunsNothing told
+  files_end named told ran left f =
+      let a = stamps_end ran left c.outputs (gathered named) told f in
+      let e = at_end false ran (map (λ (path : Path). (greatest (named ++ a.0), some_changed c.named)) c.outputs) left a.1 a.4 in
+      (sym e.1, subst RunsNothing (sym a.3) (files_run_nothing c.outputs a.0 a.1 (nothing_more a.1 e.0)))
+
+  own_files_end : (b : Baseline) (named : List ℕ) (told : List Exchange) (ran : Bool) (left : Left) → Follows (own_files b c.outputs (gathered named)) told (Over ran left) → (ran ≡ false) × RunsNothing told
+  own_files_end Outputs named told ran left f =
+      let e = at_end false ran (map (λ (path : Path). (greatest (named ++ []), some_changed c.named)) c.outputs) left told f in
+      (sym e.1, nothing_more told e.0)
+  own_files_end Basis named told ran left f = files_end named told ran left f
+  own_files_end OutputsAndBasis named told ran left f = files_end named told ran left f
+
   gathers_end : (told : List Exchange) (ran : Bool) (left : Left) → Follows (gathers c) told (Over ran left) → (ran ≡ false) × RunsNothing told
   gathers_end told ran left f =
-      let go : List ℕ → InteractionTree = λ ts. Over false (map (λ (path : Path). (greatest ts, some_changed c.named)) c.outputs) in
+      let go : List ℕ → InteractionTree = λ named. own_files c.baseline c.outputs (gathered named) in
       let a = inputs_end ran left (asked c.named c.order_only) (λ ts. inputs c.named go) told f in
       let b = inputs_end ran left c.named go a.1 a.4 in
-      let e = at_end false ran (map (λ (path : Path). (greatest b.0, some_changed c.named)) c.outputs) left b.1 b.4 in
-      let after : RunsNothing a.1 = subst RunsNothing (sym b.3) (inputs_run_nothing c.named b.0 b.1 (nothing_more b.1 e.0)) in
-      (sym e.1, subst RunsNothing (sym a.3) (inputs_run_nothing (asked c.named c.order_only) a.0 a.1 after))
+      let o = own_files_end c.baseline b.0 b.1 ran left b.4 in
+      let after : RunsNothing a.1 = subst RunsNothing (sym b.3) (inputs_run_nothing c.named b.0 b.1 o.1) in
+      (o.0, subst RunsNothing (sym a.3) (inputs_run_nothing (asked c.named c.order_only) a.0 a.1 after))
 
   phony_by : (b : Bool) (told : List Exchange) (ran : Bool) (left : Left) → Follows (if b then alone c.outputs else gathers c) told (Over ran left) → (ran ≡ false) × RunsNothing told
   phony_by true told ran left f = alone_end told ran left f

@@ -3,8 +3,10 @@ use Rattle.std.proofs.Common.{ℕ, zero, suc, Bool, true, false, Result, Ok, Err
 use Rattle.std.specs.Prelude.{◌&&◌, if◌then◌else◌}
 use Rattle.plan_verify.specs.declared.value.Cause.{Cause}
 use Rattle.plan_verify.specs.Turn.{Meaning, Request, Reply, StampIs, Entry, Nothing, Exit, Signal, NotStarted, Bytes, Kept, Fault}
+use Rattle.plan_compile.specs.declared.baseline.Baseline.{Baseline}
+use Rattle.plan_compile.specs.declared.baseline.Baseline.TheVariants.{Outputs, Basis, OutputsAndBasis}
 use Rattle.plan_compile.specs.InteractionTree.{Left, InteractionTree, Ask, Over, Fail, Follows}
-use Rattle.plan_compile.specs.Rule.{Path, Given, SourceFile, Made, Command, Recorded, needed, stamped, recalled, exited, told_paths, read, kept, inputs, stamps, asked, is_dirty, paths_in, unchanged, changed, depfile, runs, does, has_none, does_phony}
+use Rattle.plan_compile.specs.Rule.{Path, Given, SourceFile, Made, Command, Recorded, needed, stamped, recalled, exited, told_paths, read, kept, inputs, stamps, asked, is_dirty, paths_in, unchanged, changed, depfile, runs, does, has_none, own_files, does_phony}
 use Rattle.plan_compile.specs.Told.{edge_does}
 use Rattle.plan_laws.specs.Manifests.{IsOwnRun, AreOwnRuns}
 
@@ -102,6 +104,11 @@ module _ (c : Command) where
   stamps_own [] go own = own []
   stamps_own (path ∷ others) go own = asks tt (stamped_own _ (λ t. stamps_own others _ (λ ts. own (t ∷ ts))))
 
+  own_files_own : (b : Baseline) (ps : List Path) (go : List ℕ → InteractionTree) → ((ts : List ℕ) → OnlyOwn c (go ts)) → OnlyOwn c (own_files b ps go)
+  own_files_own Outputs ps go own = own []
+  own_files_own Basis ps go own = stamps_own ps go own
+  own_files_own OutputsAndBasis ps go own = stamps_own ps go own
+
   depfile_own : (meaning : Meaning) (path : List ℕ) (go : List Path → InteractionTree) → ((ps : List Path) → OnlyOwn c (go ps)) → OnlyOwn c (depfile meaning path go)
   depfile_own meaning [] go own = own []
   depfile_own meaning (x ∷ xs) go own = asks tt (read_own meaning go own)
@@ -122,7 +129,7 @@ module _ (c : Command) where
   phony_own : OnlyOwn c (does_phony c)
   phony_own =
       either (has_none c.named && has_none c.order_only) _ _ (stamps_own c.outputs _ (λ ts. is_over))
-      (inputs_own (asked c.named c.order_only) _ (λ ts. inputs_own c.named _ (λ us. is_over)))
+      (inputs_own (asked c.named c.order_only) _ (λ ts. inputs_own c.named _ (λ us. own_files_own c.baseline c.outputs _ (λ own. is_over))))
 
   edge_own : (phony : Bool) (meaning : Meaning) → OnlyOwn c (edge_does phony meaning c)
   edge_own true meaning = phony_own

@@ -1,6 +1,6 @@
 -- The rule of an edge reads of the slots only what its waits left, and what the edge leaves is in slots of its own. So both
 -- can be read in the slots of the run.
-use Rattle.std.proofs.Common.{◌≡◌, ℕ, zero, suc, Bool, true, false, List, [], ◌∷◌, map, Option, Some, None, refl, sym, ap, ◌∙◌, subst}
+use Rattle.std.proofs.Common.{◌≡◌, ℕ, zero, suc, Bool, true, false, List, [], ◌∷◌, ◌++◌, map, Option, Some, None, refl, sym, ap, ◌∙◌, subst}
 use Rattle.std.specs.Prelude.{◌&&◌, if◌then◌else◌, slice_get}
 use Rattle.plan_image.specs.declared.image.Parts.{Parts}
 use Rattle.plan_image.specs.declared.body.Kind.TheVariants as kind
@@ -11,7 +11,7 @@ use Rattle.plan_compile.specs.declared.layout.Output.{Output}
 use Rattle.plan_compile.specs.declared.slot_pattern.SlotPattern.{SlotPattern}
 use Rattle.plan_compile.specs.declared.slot_pattern.SlotPattern.TheVariants.{OneFlag, OwnFlags, Gathers, Alone}
 use Rattle.plan_compile.specs.InteractionTree.{Left, InteractionTree, Over}
-use Rattle.plan_compile.specs.Rule.{Path, Given, SourceFile, Made, Command, is_among, inputs, asked, alone, greatest, some_changed}
+use Rattle.plan_compile.specs.Rule.{Path, Given, SourceFile, Made, Command, is_among, inputs, asked, alone, own_files, greatest, some_changed}
 use Rattle.plan_compile.specs.Rule.{has_none as has_none_given}
 use Rattle.plan_compile.specs.Means.{stamp_in, flag_in, Leaves, IsOwnOf, AreInputs, AreOutputs, Share, IsLaidOut}
 use Rattle.plan_compile.specs.Builds.{Build, Builds}
@@ -113,7 +113,7 @@ module _ (t : Builds) (p : Parts) (e : ℕ) (a b : Slots) (lent : (k : ℕ) → 
     after = map (told t b) x.order_only
 
     abbrev gathered : List ℕ → InteractionTree
-    gathered ts = Over false (map (λ (path : Path). (greatest ts, some_changed named)) (map (path_in t) x.outputs))
+    gathered ts = own_files x.baseline (map (path_in t) x.outputs) (λ own. Over false (map (λ (path : Path). (greatest (ts ++ own), some_changed named)) (map (path_in t) x.outputs)))
 
     by_phony : (phony : Bool) → edge_does phony meaning (like named before) ≡ edge_does phony meaning (like named after)
     by_phony false = ap (λ (gs : List Given). inputs gs (λ ts. inputs named (stamping meaning (like named after)))) (asked_same named x.order_only)

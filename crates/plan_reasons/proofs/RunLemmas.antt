@@ -4,8 +4,10 @@ use Rattle.std.specs.Prelude.{◌==◌, ◌&&◌, is_some, if◌then◌else◌}
 use Rattle.std.proofs.lemmas.List.{append_assoc}
 use Rattle.plan_verify.specs.declared.value.Cause.{Cause}
 use Rattle.plan_verify.specs.Turn.{Meaning, Request, Stat, Recall, Run, Deps, Keep, Reply as Answer, StampIs, Entry, Nothing, Exit, Signal, NotStarted, Bytes, Kept, Fault}
+use Rattle.plan_compile.specs.declared.baseline.Baseline.{Baseline}
+use Rattle.plan_compile.specs.declared.baseline.Baseline.TheVariants.{Outputs, Basis, OutputsAndBasis}
 use Rattle.plan_compile.specs.InteractionTree.{Left, InteractionTree, Ask, Over, Fail, Follows}
-use Rattle.plan_compile.specs.Rule.{Path, Given, SourceFile, Made, Command, Recorded, needed, stamped, recalled, exited, told_paths, read, kept, inputs, stamps, asked, greatest, is_dirty, paths_in, name, unchanged, changed, depfile, runs, does, has_none, does_phony}
+use Rattle.plan_compile.specs.Rule.{Path, Given, SourceFile, Made, Command, Recorded, needed, stamped, recalled, exited, told_paths, read, kept, inputs, stamps, asked, greatest, is_dirty, paths_in, name, unchanged, changed, depfile, runs, does, has_none, own_files, does_phony}
 use Rattle.plan_compile.specs.Told.{edge_does}
 use Rattle.plan_machine.specs.declared.event.reply.Reply.{Reply}
 use Rattle.plan_reasons.specs.declared.reason.Reason.{Reason}
@@ -99,6 +101,11 @@ stamps_none : (ps : List Path) (go : List ℕ → InteractionTree) → ((ts : Li
 stamps_none [] go none = none []
 stamps_none (path ∷ others) go none = asks tt (stamped_none _ (λ t. stamps_none others _ (λ ts. none (t ∷ ts))))
 
+own_files_none : (b : Baseline) (ps : List Path) (go : List ℕ → InteractionTree) → ((ts : List ℕ) → NoRuns (go ts)) → NoRuns (own_files b ps go)
+own_files_none Outputs ps go none = none []
+own_files_none Basis ps go none = stamps_none ps go none
+own_files_none OutputsAndBasis ps go none = stamps_none ps go none
+
 depfile_none : (meaning : Meaning) (path : List ℕ) (go : List Path → InteractionTree) → ((ps : List Path) → NoRuns (go ps)) → NoRuns (depfile meaning path go)
 depfile_none meaning [] go none = none []
 depfile_none meaning (x ∷ xs) go none = asks tt (read_none meaning go none)
@@ -116,7 +123,7 @@ either false x y none other = other
 phony_none : (c : Command) → NoRuns (does_phony c)
 phony_none c =
     either (has_none c.named && has_none c.order_only) _ _ (stamps_none c.outputs _ (λ ts. is_over))
-    (inputs_none (asked c.named c.order_only) _ (λ ts. inputs_none c.named _ (λ us. is_over)))
+    (inputs_none (asked c.named c.order_only) _ (λ ts. inputs_none c.named _ (λ us. own_files_none c.baseline c.outputs _ (λ own. is_over))))
 
 -- ---- up to the command
 

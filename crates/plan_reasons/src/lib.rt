@@ -1,7 +1,7 @@
 //! Says why an edge is out of date.
 //!
-//! - `reason_for` returns the first reason and the observations (`Finding`), by the layout of an edge, by the slots that
-//!   its code loads (`LentSlots`), and by the replies that the edge got before its command.
+//! - `reason_for` returns the first reason and the observations (`Finding`), by the layout of an edge, by the slots
+//!   that its code loads (`LentSlots`), and by the replies that the edge got before its command.
 //! - These are its steps: `facts_by` returns what the reasons need to know of the edge (`Facts`), `observe` what it
 //!   observed (`Observed`), and `first_reason` the first reason by both.
 //! - `Reason` is a reason. `sentence` says it in words (`Names`).
