@@ -10,6 +10,7 @@ stand lines `KEY: VALUE`, which go on with lines that are indented by two spaces
   rows       folders of tests/rows, as NAME or LAYER/NAME
   cases      cases of tests/images, as FILE/NAME
   builds     cases of tests/builds, as FILE/NAME
+  suites     suites of tests/suites that run `plan_build`, for a rule that only they show
   tests      unit tests, in the crate or in the module of a crate plan_tests_* that is named after it
   examples   Rows: examples that the checker computes in proofs/Rows.antt
   edits      wrong bodies that the prover refuses, in tests/must_fail/ or in tests/edits/
@@ -35,6 +36,7 @@ from typing import NamedTuple
 import call_graph
 import doc_names
 import tests_path  # noqa: F401: it makes lib known
+import suites
 from lib import build_cases as run_builds
 from lib import image_cases as cases
 
@@ -43,7 +45,7 @@ ROOT = pathlib.Path(__file__).resolve().parent.parent
 PAGES = ("rules/manifest.md", "rules/depfile.md", "rules/record.md", "rules/image.md", "rules/verifier.md",
          "rules/machine.md", "rules/lanes.md", "rules/world.md", "rules/out-of-date.md", "rules/replay.md",
          "rules/build.md", "rules/command-line.md", "rules/tools.md", "using/running.md")
-KEYS = {"defined", "done", "offered", "rows", "cases", "builds", "tests", "examples", "edits"}
+KEYS = {"defined", "done", "offered", "rows", "cases", "builds", "suites", "tests", "examples", "edits"}
 
 
 class Rule(NamedTuple):
@@ -190,6 +192,7 @@ def faults_of(rule: Rule, functions: Functions) -> Iterator[str]:
     yield from (f"no case {pattern}" for pattern, found in tried if not found)
     built = fitting(rule.parts.get("builds", ""), run_builds.names())
     yield from (f"no build {pattern}" for pattern, found in built if not found)
+    yield from (f"no suite {name}" for name in rule.parts.get("suites", "").split() if name not in suites.NAMES)
     for crate, text in rule.groups("tests"):
         own = ROOT.glob(f"crates/{crate}/src/**/*.rt")
         name = re.sub("^plan_", "", crate)
@@ -201,8 +204,8 @@ def faults_of(rule: Rule, functions: Functions) -> Iterator[str]:
         if not (ROOT / "crates" / crate / "proofs" / "Rows.antt").is_file():
             yield f"no Rows in {crate}"
     yield from (f"no edit {name} of {crate}" for crate, name in edits_of(rule) if (crate, name) not in edits())
-    if not rule.parts.keys() & {"rows", "cases", "builds", "examples"}:
-        yield "no row, no case, no build and no example"
+    if not rule.parts.keys() & {"rows", "cases", "builds", "suites", "examples"}:
+        yield "no row, no case, no build, no suite and no example"
 
 
 def edits_of(rule: Rule) -> set[tuple[str, str]]:

@@ -1,4 +1,5 @@
-"""Changes files while commands read them, and builds the trees of several branches in turn in one folder.
+"""Changes files while commands read them, builds the trees of several branches in turn in one folder, and changes files
+that have the name of a phony.
 
 After each change the next build must run each command whose outputs are old, and the build after that has nothing to
 do. A file that is no record must stay as it is.
@@ -144,6 +145,46 @@ def future_header(builder: str, folder: pathlib.Path) -> None:
     expect("warning", "plan_ninja: h has a date in the future, so commands that read it run again\n", errors)
 
 
+# The header is written next to the stamp that the edge declares, as generators do.
+SIDE_EFFECT = """\
+rule stamp
+  command = test -e x.h || echo one > x.h; touch $out
+rule copy
+  command = cp in x.h; touch $out
+rule use
+  command = cat x.h > $out
+  description = $out
+build x.stamp: stamp given
+build x.h: phony x.stamp
+build other: copy in
+build out: use x.h
+default out
+"""
+
+
+def used(text: str, builder: str, folder: pathlib.Path) -> None:
+    """Builds after the header changed: its user runs once."""
+    expect("next build", ("[1/1] out\n", "", 0), says(builder, folder))
+    expect("output", text, (folder / "out").read_text())
+    expect("the build after it", NOTHING, says(builder, folder))
+
+
+def side_effect(builder: str, folder: pathlib.Path) -> None:
+    """A phony with an input names a file that is there: whatever changes this file, the phony's users run."""
+    programs.write({"build.ninja": SIDE_EFFECT, "given": "given\n", "in": "in\n"}, folder)
+    expect("errors and status of the first build", ("", 0), says(builder, folder)[1:])
+    expect("output", "one\n", (folder / "out").read_text())
+    expect("the build after it", NOTHING, says(builder, folder))
+    time.sleep(TICK)
+    (folder / "x.h").write_text("by hand\n")
+    used("by hand\n", builder, folder)
+    time.sleep(TICK)
+    expect("errors and status of another edge", ("", 0), says(builder, folder, "other")[1:])
+    used("in\n", builder, folder)
+    (folder / "x.h").unlink()
+    expect("without the file", NOTHING, says(builder, folder))
+
+
 def strange_record(program: str, folder: pathlib.Path) -> None:
     """A file that is no record isn't used as one, and stays as it is."""
     text = "int main(void) { return 0; }\n"
@@ -190,6 +231,7 @@ def cases(setting: Setting) -> Iterator[Case]:
         yield Case(name, functools.partial(in_turn, branches, builder))
     yield Case("nothing to do after a switch", functools.partial(settles, builder))
     yield Case("dead outputs", functools.partial(dead_outputs, builder))
+    yield Case("side effect with the name of a phony", functools.partial(side_effect, builder))
     yield Case("strange record", functools.partial(strange_record, setting.program))
     for size in (9, 100_000):
         yield Case(f"link to {size} strange bytes", functools.partial(strange_link, size, builder))

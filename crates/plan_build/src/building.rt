@@ -161,7 +161,8 @@ impl<
         }
     }
 
-    /// Prints the commands that a build would run, and notes if there may be more. Also returns how many edges would fail.
+    /// Prints the commands that a build would run, and notes if there may be more. Also returns how many edges would
+    /// fail.
     fn preview(
         &self,
         line: &CommandLine,

@@ -43,8 +43,8 @@ fn code_of(alloc: Global, number: u8) -> Result<Vec<u8>, AllocError> {
     concatenate(alloc, &[b" [", code, b"]\n"])
 }
 
-/// Returns the message for a fault: the first line `head` with the fault's number and name, `lines`, and advice if there
-/// is any.
+/// Returns the message for a fault: the first line `head` with the fault's number and name, `lines`, and advice if
+/// there is any.
 fn text_of(alloc: Global, head: &[u8], lines: &[u8], number: u8) -> Result<Vec<u8>, AllocError> {
     let code = code_of(alloc, number)?;
     let mut text = Vec::from_slice(alloc, head)?;

@@ -25,7 +25,7 @@ use Rattle.plan_reasons.specs.Observing.{Exchange}
 use Rattle.plan_commands.specs.declared.building.Done.{Done}
 use Rattle.plan_commands.specs.declared.building.Done.TheVariants as done
 use Rattle.plan_commands.specs.Showing.{Shown}
-use Rattle.plan_commands.specs.Building.{EndsAs, HasRunNothing, exit_status, opened, outcome_in}
+use Rattle.plan_commands.specs.Building.{EndsAs, HasRunNothing, exit_status, manifest_in, opened, outcome_in}
 use Rattle.plan_commands.specs.BuildIsRight.{BuildIsRight, IdleBuildsRunNothing}
 
 -- Status 0 is given only if all wanted edges succeeded.
@@ -44,7 +44,7 @@ run_is_right rule right m g sound graph limits edges r p same =
 
 pub build_is_right : (gives : FileContents) (shown : Shown) (rule : Rule) → FinishedRunsAreRight rule → BuildIsRight gives shown rule
 build_is_right gives shown rule right a old new d zero b =
-    run_is_right rule right b.read.manifest b.read.image.graph b.read.image.sound b.read.image.is_graph a.limits b.edges b.report b.parts b.read.image.same b.run.run
+    run_is_right rule right (manifest_in b.read) b.read.image.graph b.read.image.sound b.read.image.is_graph a.limits b.edges b.report b.parts b.read.image.same b.run.run
     (all_succeeded b.parts b.report d zero b.ends)
 
 -- An edge that succeeded in a run in which no command ran asked for no command.

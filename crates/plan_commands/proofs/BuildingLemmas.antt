@@ -28,13 +28,13 @@ use Rattle.plan_commands.specs.declared.building.Round.{Round}
 use Rattle.plan_commands.specs.declared.building.Round.TheVariants as round
 use Rattle.plan_commands.specs.declared.building.Done.{Done}
 use Rattle.plan_commands.specs.declared.building.Done.TheVariants as done
-use Rattle.plan_commands.specs.Commands.{IsMeant, IsRefused, loading_by}
-use Rattle.plan_commands.specs.Compiling.{IsImageOf, IsNotCompiled, LacksImageOf}
+use Rattle.plan_commands.specs.Commands.{IsMeant, IsRefused, MayLoad as MayLoads, loading_by}
+use Rattle.plan_commands.specs.Compiling.{IsImageOf}
 use Rattle.plan_commands.specs.Images.{SinkState}
 use Rattle.plan_commands.specs.Showing.{IsShown, Shown}
 use Rattle.plan_commands.specs.Running.{EndsPrinted, LanesStop, lines_in, report_in}
 use Rattle.plan_commands.specs.Targets.{target, targets}
-use Rattle.plan_commands.specs.Building.{Asked, IsRead, Nowhere, opened, maker_of, ok_of, outcome_in, Remakes, Rounds, no_round, one_more, IsUpToDate, MakerFails, FailsToRemake, BuildsTargets, Builds, EndsAs, most_rounds, IsNotRead, LacksMemory, RunStops, IsNotRun, RoundStops, TargetsStop, Stops, IsLost, IsRoundOf, EndsRound, HasRunNothing, RunsTargets}
+use Rattle.plan_commands.specs.Building.{Asked, IsRead, Nowhere, opened, maker_of, ok_of, outcome_in, Remakes, Rounds, no_round, one_more, IsUpToDate, MakerFails, FailsToRemake, BuildsTargets, Builds, EndsAs, most_rounds, IsNotRead, IsImageRecorded, LacksRecorded, RefusesRecorded, LacksMemory, RunStops, IsNotRun, RoundStops, TargetsStop, Stops, IsLost, IsRoundOf, EndsRound, HasRunNothing, RunsTargets}
 use Rattle.plan_commands.proofs.TargetLemmas.{all_inside}
 
 -- ---- the manifest is read
@@ -61,13 +61,10 @@ module _ (g h : FileContents) (m n : PathSet) (gh : (p : Text) (bytes : Option (
       inr (inr (inl (record { lines = r.lines; manifest = r.manifest; cause = r.cause; loaded = loads_wider more_files _ [] _ r.loaded; means = r.means; refused = r.refused; says = r.says })))
   refused_wider path fault (inr (inr (inr r))) = inr (inr (inr r))
 
-  compiled_wider : (path : Text) (fault : PlanFault) → IsNotCompiled Stricter (LoadsFirst g m) path fault → IsNotCompiled Stricter (LoadsFirst h n) path fault
-  compiled_wider path fault (inl r) = inl (refused_wider path fault r)
-  compiled_wider path fault (inr (inl r)) = inr (inl (record { lines = r.lines; manifest = r.manifest; loaded = loads_wider more_files _ [] _ r.loaded; means = r.means; refused = r.refused }))
-  compiled_wider path fault (inr (inr r)) = inr (inr r)
-
-  not_read_wider : (path : Text) (fault : PlanFault) → IsNotRead g m path fault → IsNotRead h n path fault
-  not_read_wider = compiled_wider
+  not_read_wider : (rule : Rule) (path : Text) (fault : PlanFault) → IsNotRead g m rule path fault → IsNotRead h n rule path fault
+  not_read_wider rule path fault (inl r) = inl (refused_wider path fault r)
+  not_read_wider rule path fault (inr r) =
+      inr (record { lines = r.lines; manifest = r.manifest; loaded = loads_wider more_files _ [] _ r.loaded; means = r.means; additions = r.additions; recorded = r.recorded; refused = r.refused })
 
 -- All lines are loaded only if no file is missing.
 loads_there : (g : FileContents) (m : PathSet) (left : ℕ) (job : Job) (above : List TreeStatement) (out : Outcome) (lines : List TreeStatement) → out ≡ Ok lines → MayLoad g m left job above out
@@ -83,11 +80,30 @@ loads_there g m left job above out lines is (includes_file l path scopes a s mor
 loads_there g m left job above out lines is (includes_fault l path scopes a s more inner fault fine names inside) = absurd cc
 
 -- The image of a manifest that may be loaded is read.
-pub read_of : (g : FileContents) (f : PathSet) (b c : ℕ) (path : Text) (manifest : Manifest) (result : Result Parts PlanFault) → IsMeant (loading_by g f b c) path manifest
-    → IfOk result (λ p. IsImageOf Stricter manifest p) → IfOk result (λ p. IsRead g path p)
-read_of g f b c path manifest (Ok p) m image =
-    record { lines = m.0; manifest = manifest; loaded = loads_there g (IsMissing g f b c) more_files _ [] (Ok m.0) m.0 refl m.1; means = m.2; image = image }
-read_of g f b c path manifest (Err fault) m image = tt
+pub read_of : (g : FileContents) (f : PathSet) (b c : ℕ) (rule : Rule) (path : Text) (manifest : Manifest) (result : Result Parts PlanFault) → IsMeant (loading_by g f b c) path manifest
+    → IfOk result (λ p. IsImageRecorded rule manifest p) → IfOk result (λ p. IsRead g rule path p)
+read_of g f b c rule path manifest (Ok p) m image =
+    record {
+      lines = m.0;
+      manifest = manifest;
+      loaded = loads_there g (IsMissing g f b c) more_files _ [] (Ok m.0) m.0 refl m.1;
+      means = m.2;
+      additions = image.0;
+      recorded = image.1;
+      image = image.2;
+    }
+read_of g f b c rule path manifest (Err fault) m image = tt
+
+not_read : (loads : MayLoads) (rule : Rule) (path : Text) (manifest : Manifest) (fault : PlanFault) → IsMeant loads path manifest → LacksRecorded rule manifest fault → IsRefused loads path fault ⊎ RefusesRecorded rule loads path fault
+not_read loads rule path manifest fault m (inl (inl g)) = inl (inr (inr (inl (record { lines = m.0; manifest = manifest; cause = g.0; loaded = m.1; means = m.2; refused = g.1; says = g.2 }))))
+not_read loads rule path manifest fault m (inl (inr e)) = inl (inr (inr (inr (inr (inr (inr e))))))
+not_read loads rule path manifest fault m (inr r) = inr (record { lines = m.0; manifest = manifest; loaded = m.1; means = m.2; additions = r.0; recorded = r.1; refused = r.2 })
+
+-- The reason why there is no image says why the manifest isn't read.
+pub none_read : (A : Type 0) (g : FileContents) (missing : PathSet) (rule : Rule) (path : Text) (manifest : Manifest) (result : Result A PlanFault) → IsMeant (LoadsFirst g missing) path manifest
+    → IfErr result (λ fault. LacksRecorded rule manifest fault) → IfErr result (λ fault. IsNotRead g missing rule path fault)
+none_read A g missing rule path manifest (Ok image) m lacks = tt
+none_read A g missing rule path manifest (Err fault) m lacks = not_read (LoadsFirst g missing) rule path manifest fault m lacks
 
 -- ---- a run
 
@@ -131,16 +147,16 @@ pub maker_is : (p q : Parts) (path : Text) (m : ℕ) (o : Option ℕ) → q ≡ 
 maker_is p q path m o same is by = sym is ∙ by ∙ ap (λ (x : Parts). maker_of x path) same
 
 -- How a round goes, from the run of the maker.
-pub round_by : (gives : FileContents) (shown : Shown) (rule : Rule) (a : Asked) (p : Parts) (maker : ℕ) (r : Report) (old new : SinkState) (x : Round) → IsRead gives a.path p → Some maker ≡ maker_of p a.path
+pub round_by : (gives : FileContents) (shown : Shown) (rule : Rule) (a : Asked) (p : Parts) (maker : ℕ) (r : Report) (old new : SinkState) (x : Round) → IsRead gives rule a.path p → Some maker ≡ maker_of p a.path
     → EndsPrinted shown rule (opened p a.limits (maker ∷ [])) r old new → IsRoundOf p maker r x → EndsRound gives shown rule a old new x
 round_by gives shown rule a p maker r old new (round.UpToDate q) read makes run is =
-    subst (λ (x : Parts). IsRead gives a.path x × IsUpToDate shown rule a x old new) (sym is.0)
+    subst (λ (x : Parts). IsRead gives rule a.path x × IsUpToDate shown rule a x old new) (sym is.0)
     (read, inr (record { maker = maker; makes = sym makes; report = r; run = run; well = is.1; clean = is.2 }))
 round_by gives shown rule a p maker r old new round.Remade read makes run is = record { parts = p; read = read; maker = maker; makes = sym makes; report = r; run = run; well = is.0; ran = is.1 }
 round_by gives shown rule a p maker r old new round.Failed read makes run is = record { parts = p; read = read; maker = maker; makes = sym makes; report = r; run = run; ill = is }
 
 -- The reason why a round stops, from the run of the maker.
-pub maker_stops : (gives : FileContents) (missing : PathSet) (shown : Shown) (rule : Rule) (a : Asked) (p : Parts) (maker : ℕ) (old new : SinkState) (fault : PlanFault) → IsRead gives a.path p → Some maker ≡ maker_of p a.path
+pub maker_stops : (gives : FileContents) (missing : PathSet) (shown : Shown) (rule : Rule) (a : Asked) (p : Parts) (maker : ℕ) (old new : SinkState) (fault : PlanFault) → IsRead gives rule a.path p → Some maker ≡ maker_of p a.path
     → IsNotRun shown rule (opened p a.limits (maker ∷ [])) old new fault → RoundStops gives missing shown rule a old new fault
 maker_stops gives missing shown rule a p maker old new fault read makes (inl x) = inl (x.0, inr (inr x.1))
 maker_stops gives missing shown rule a p maker old new fault read makes (inr x) = inr (record { parts = p; read = read; maker = maker; makes = sym makes; stops = x })
@@ -148,18 +164,26 @@ maker_stops gives missing shown rule a p maker old new fault read makes (inr x) 
 -- ---- if files may hold the same
 
 module _ (g h : FileContents) (gh : (p : Text) (bytes : Option (List ℕ)) → g p bytes → h p bytes) where
-  read_wider : (path : Text) (p : Parts) → IsRead g path p → IsRead h path p
-  read_wider path p r = record { lines = r.lines; manifest = r.manifest; loaded = loads_wider g h Nowhere Nowhere gh (λ q x. x) more_files _ [] _ r.loaded; means = r.means; image = r.image }
+  read_wider : (rule : Rule) (path : Text) (p : Parts) → IsRead g rule path p → IsRead h rule path p
+  read_wider rule path p r = record {
+    lines = r.lines;
+    manifest = r.manifest;
+    loaded = loads_wider g h Nowhere Nowhere gh (λ q x. x) more_files _ [] _ r.loaded;
+    means = r.means;
+    additions = r.additions;
+    recorded = r.recorded;
+    image = r.image;
+  }
 
   pub round_wider : (shown : Shown) (rule : Rule) (a : Asked) (old new : SinkState) (x : Round) → EndsRound g shown rule a old new x → EndsRound h shown rule a old new x
-  round_wider shown rule a old new (round.UpToDate p) x = (read_wider a.path p x.0, x.1)
-  round_wider shown rule a old new round.Remade x = record { parts = x.parts; read = read_wider a.path x.parts x.read; maker = x.maker; makes = x.makes; report = x.report; run = x.run; well = x.well; ran = x.ran }
-  round_wider shown rule a old new round.Failed x = record { parts = x.parts; read = read_wider a.path x.parts x.read; maker = x.maker; makes = x.makes; report = x.report; run = x.run; ill = x.ill }
+  round_wider shown rule a old new (round.UpToDate p) x = (read_wider rule a.path p x.0, x.1)
+  round_wider shown rule a old new round.Remade x = record { parts = x.parts; read = read_wider rule a.path x.parts x.read; maker = x.maker; makes = x.makes; report = x.report; run = x.run; well = x.well; ran = x.ran }
+  round_wider shown rule a old new round.Failed x = record { parts = x.parts; read = read_wider rule a.path x.parts x.read; maker = x.maker; makes = x.makes; report = x.report; run = x.run; ill = x.ill }
 
   pub stops_wider : (m n : PathSet) → ((p : Text) → m p → n p) → (shown : Shown) (rule : Rule) (a : Asked) (old new : SinkState) (fault : PlanFault) → RoundStops g m shown rule a old new fault → RoundStops h n shown rule a old new fault
-  stops_wider m n mn shown rule a old new fault (inl (same, inl x)) = inl (same, inl (not_read_wider g h m n gh mn a.path fault x))
+  stops_wider m n mn shown rule a old new fault (inl (same, inl x)) = inl (same, inl (not_read_wider g h m n gh mn rule a.path fault x))
   stops_wider m n mn shown rule a old new fault (inl (same, inr x)) = inl (same, inr x)
-  stops_wider m n mn shown rule a old new fault (inr x) = inr (record { parts = x.parts; read = read_wider a.path x.parts x.read; maker = x.maker; makes = x.makes; stops = x.stops })
+  stops_wider m n mn shown rule a old new fault (inr x) = inr (record { parts = x.parts; read = read_wider rule a.path x.parts x.read; maker = x.maker; makes = x.makes; stops = x.stops })
 
 -- ---- facts on the way
 

@@ -4,6 +4,7 @@ mod MakerLemmas
 mod TargetLemmas
 mod ShowingLemmas
 mod RunningLemmas
+mod RecordedLemmas
 mod BuildingLemmas
 mod BuildRightLemmas
 mod ComparingLemmas

@@ -1,10 +1,13 @@
--- How a build goes. The manifest is read and compiled. If an edge makes it, that edge is run first, and the manifest is
--- read again each time that the edge's command ran. Then the image of the manifest that was read last is run.
+-- How a build goes. The manifest is read, with what the record adds to it, and compiled. If an edge makes it, that edge
+-- is run first, and the manifest is read again each time that the edge's command ran. Then the image of the manifest
+-- that was read last is run.
 use Rattle.std.specs.Prelude.{◌≡◌, ◌⊎◌, ◌<◌, ℕ, suc, true, false, List, [], ◌∷◌, Option, Some, None, Result, Ok, Err, slice_get}
 use Rattle.plan_scope.specs.Trees.{TreeStatement}
 use Rattle.plan_scope.specs.Scopes.{Text}
 use Rattle.plan_scope.specs.Loading.{FileContents, PathSet, LoadsFirst}
 use Rattle.plan_scope.specs.Edges.{manifest_of}
+use Rattle.plan_scope.specs.Extended.{extended}
+use Rattle.plan_scope.specs.declared.edge.addition.Addition.{Addition}
 use Rattle.plan_scope.specs.declared.manifest.Manifest.{Manifest}
 use Rattle.plan_image.specs.declared.image.Parts.{Parts}
 use Rattle.plan_compile.specs.declared.baseline.OutOfDateRule.TheVariants.{Stricter}
@@ -21,10 +24,14 @@ use Rattle.plan_lanes.specs.declared.fault.LaneFault.{LaneFault}
 use Rattle.plan_printing.specs.declared.fault.PlanFault.{PlanFault}
 use Rattle.plan_commands.specs.declared.building.Done.{Done}
 use Rattle.plan_commands.specs.declared.building.Done.TheVariants as done
+use Rattle.plan_commands.specs.declared.recorded_image.Compiled.{Compiled}
+use Rattle.plan_commands.specs.declared.recorded_image.Compiled.TheVariants as compiled
 use Rattle.plan_commands.specs.declared.building.Round.{Round}
 use Rattle.plan_commands.specs.declared.building.Round.TheVariants as round
 use Rattle.plan_printing.specs.Faults.{no_memory}
-use Rattle.plan_commands.specs.Compiling.{IsImageOf, IsNotCompiled}
+use Rattle.plan_commands.specs.Commands.{IsRefused, LacksGraph, MayLoad}
+use Rattle.plan_commands.specs.Compiling.{IsImageOf, LacksImageOf}
+use Rattle.plan_commands.specs.Recorded.{AreRecorded}
 use Rattle.plan_commands.specs.Images.{SinkState}
 use Rattle.plan_commands.specs.Showing.{Shown}
 use Rattle.plan_commands.specs.Running.{EndsPrinted, LanesStop, FailsToPrint, opening_memory, printed_lane_fault, printed_print_fault}
@@ -45,14 +52,21 @@ asked path limits names = record { path = path; limits = limits; names = names }
 abbrev pub Nowhere : PathSet
 Nowhere path = ⊥
 
--- The tables are the image of a manifest by the stricter out-of-date rule. The files may hold the lines of this
--- manifest, and none of these files is missing.
-pub record IsRead (gives : FileContents) (path : Text) (p : Parts) : Type 0 where
+-- The tables are the image, by the stricter out-of-date rule, of a manifest with what the record adds to it. The files
+-- may hold the lines of this manifest, and none of these files is missing. The rule of the world says what the record
+-- may be.
+pub record IsRead (gives : FileContents) (rule : Rule) (path : Text) (p : Parts) : Type 0 where
   pub lines : List TreeStatement
   pub manifest : Manifest
   pub loaded : LoadsFirst gives Nowhere path (Ok lines)
   pub means : manifest_of lines ≡ Ok manifest
-  pub image : IsImageOf Stricter manifest p
+  pub additions : List Addition
+  pub recorded : AreRecorded rule manifest additions
+  pub image : IsImageOf Stricter (extended additions manifest) p
+
+-- What a build knows to wait for: the manifest that was read, with what the record adds to it.
+abbrev pub manifest_in : {gives : FileContents} {rule : Rule} {path : Text} {p : Parts} → IsRead gives rule path p → Manifest
+manifest_in read = extended read.additions read.manifest
 
 -- ---- the manifest is remade
 
@@ -76,7 +90,7 @@ outcome_in r e = outcome_at (slice_get r.state.run_state.now.edges e)
 -- and the maker's command ran.
 pub record Remakes (gives : FileContents) (shown : Shown) (rule : Rule) (a : Asked) (old new : SinkState) : Type 0 where
   pub parts : Parts
-  pub read : IsRead gives a.path parts
+  pub read : IsRead gives rule a.path parts
   pub maker : ℕ
   pub makes : maker_of parts a.path ≡ Some maker
   pub report : Report
@@ -110,7 +124,7 @@ IsUpToDate shown rule a p old new = HasNoMaker a p old new ⊎ MakerIsClean show
 -- The maker was run as the only target. An edge that the maker needs, or the maker, did not succeed.
 pub record MakerFails (gives : FileContents) (shown : Shown) (rule : Rule) (a : Asked) (old new : SinkState) : Type 0 where
   pub parts : Parts
-  pub read : IsRead gives a.path parts
+  pub read : IsRead gives rule a.path parts
   pub maker : ℕ
   pub makes : maker_of parts a.path ≡ Some maker
   pub report : Report
@@ -156,7 +170,7 @@ pub record BuildsTargets (gives : FileContents) (shown : Shown) (rule : Rule) (a
   pub middle : SinkState
   pub remade : Rounds gives shown rule a rounds old middle
   pub parts : Parts
-  pub read : IsRead gives a.path parts
+  pub read : IsRead gives rule a.path parts
   pub later : SinkState
   pub settled : IsUpToDate shown rule a parts middle later
   pub edges : List ℕ
@@ -183,9 +197,20 @@ Builds gives shown rule a old new done.NeverSettles = Rounds gives shown rule a 
 
 -- ---- why a build stops
 
--- The manifest can't be read, or has no image, or memory ran out.
-abbrev pub IsNotRead : FileContents → PathSet → Text → PlanFault → Type 0
-IsNotRead gives missing path fault = IsNotCompiled Stricter (LoadsFirst gives missing) path fault
+-- The manifest that may be loaded from the path, with what the record adds to it, has no graph or no image for this
+-- cause.
+pub record RefusesRecorded (rule : Rule) (loads : MayLoad) (path : Text) (fault : PlanFault) : Type 0 where
+  pub lines : List TreeStatement
+  pub manifest : Manifest
+  pub loaded : loads path (Ok lines)
+  pub means : manifest_of lines ≡ Ok manifest
+  pub additions : List Addition
+  pub recorded : AreRecorded rule manifest additions
+  pub refused : LacksGraph (extended additions manifest) fault ⊎ LacksImageOf Stricter (extended additions manifest) fault
+
+-- The manifest can't be read, or has no graph, or memory ran out. Or there is no image with what the record adds.
+abbrev pub IsNotRead : FileContents → PathSet → Rule → Text → PlanFault → Type 0
+IsNotRead gives missing rule path fault = IsRefused (LoadsFirst gives missing) path fault ⊎ RefusesRecorded rule (LoadsFirst gives missing) path fault
 
 -- Memory ran out before a run began.
 abbrev pub LacksMemory : PlanFault → Type 0
@@ -202,7 +227,7 @@ IsNotRun shown rule o old new fault = ((new ≡ old) × (fault ≡ opening_memor
 -- The run of the manifest's maker stops.
 pub record MakerStops (gives : FileContents) (shown : Shown) (rule : Rule) (a : Asked) (old new : SinkState) (fault : PlanFault) : Type 0 where
   pub parts : Parts
-  pub read : IsRead gives a.path parts
+  pub read : IsRead gives rule a.path parts
   pub maker : ℕ
   pub makes : maker_of parts a.path ≡ Some maker
   pub stops : RunStops shown rule (opened parts a.limits (maker ∷ [])) old new fault
@@ -211,7 +236,7 @@ pub record MakerStops (gives : FileContents) (shown : Shown) (rule : Rule) (a : 
 -- printed. Or the run of the maker stops.
 abbrev pub RoundStops : FileContents → PathSet → Shown → Rule → Asked → (old new : SinkState) → PlanFault → Type 0
 RoundStops gives missing shown rule a old new fault =
-    ((new ≡ old) × (IsNotRead gives missing a.path fault ⊎ LacksMemory fault)) ⊎ MakerStops gives shown rule a old new fault
+    ((new ≡ old) × (IsNotRead gives missing rule a.path fault ⊎ LacksMemory fault)) ⊎ MakerStops gives shown rule a old new fault
 
 -- The reasons why the targets of an image aren't built. Either no edge makes a target (the first one is named) or
 -- memory ran out, and nothing was printed. Or the run for the edges of the targets stops.
@@ -223,7 +248,7 @@ TargetsStop shown rule a p old new fault =
 -- The manifest that was read last is up to date, and its targets aren't built.
 pub record LastRunStops (gives : FileContents) (shown : Shown) (rule : Rule) (a : Asked) (old new : SinkState) (fault : PlanFault) : Type 0 where
   pub parts : Parts
-  pub read : IsRead gives a.path parts
+  pub read : IsRead gives rule a.path parts
   pub later : SinkState
   pub settled : IsUpToDate shown rule a parts old later
   pub stops : TargetsStop shown rule a parts later new fault
@@ -237,6 +262,21 @@ pub record Stops (gives : FileContents) (missing : PathSet) (shown : Shown) (rul
   pub stops : RoundStops gives missing shown rule a middle new fault ⊎ LastRunStops gives shown rule a middle new fault
 
 -- ---- parts of a build
+
+-- The tables are the image of a manifest with what the record adds to it.
+abbrev pub IsImageRecorded : Rule → Manifest → Parts → Type 0
+IsImageRecorded rule m p = (additions : List Addition) × AreRecorded rule m additions × IsImageOf Stricter (extended additions m) p
+
+-- What a manifest compiles to, given the record.
+abbrev pub IsCompiled : Rule → Manifest → Compiled → Type 0
+IsCompiled rule m (compiled.Image p) = AreRecorded rule m [] × IsImageOf Stricter m p
+IsCompiled rule m (compiled.Lacks additions) = AreRecorded rule m additions.items
+
+-- A manifest has no graph, or no image with what the record adds to it.
+abbrev pub LacksRecorded : Rule → Manifest → PlanFault → Type 0
+LacksRecorded rule m fault =
+    LacksGraph m fault
+    ⊎ ((additions : List Addition) × AreRecorded rule m additions × (LacksGraph (extended additions m) fault ⊎ LacksImageOf Stricter (extended additions m) fault))
 
 -- The reasons why there is no report of a run that has ended and was shown to its end.
 abbrev pub IsLost : Result Report LaneFault → Option PrintFault → PlanFault → Type 0
@@ -252,7 +292,7 @@ IsRoundOf p maker r round.Failed = all_done p r.state.run_state.now ≡ false
 
 -- How a round goes that ends in this way.
 abbrev pub EndsRound : FileContents → Shown → Rule → Asked → (old new : SinkState) → Round → Type 0
-EndsRound gives shown rule a old new (round.UpToDate p) = IsRead gives a.path p × IsUpToDate shown rule a p old new
+EndsRound gives shown rule a old new (round.UpToDate p) = IsRead gives rule a.path p × IsUpToDate shown rule a p old new
 EndsRound gives shown rule a old new round.Remade = Remakes gives shown rule a old new
 EndsRound gives shown rule a old new round.Failed = MakerFails gives shown rule a old new
 

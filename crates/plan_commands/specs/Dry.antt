@@ -24,7 +24,7 @@ dry_rule rule number (Keep output command basis paths) r = r ≡ reply.Kept
 -- The manifest is up to date, and its image was run for the targets.
 pub record PreviewsTargets (gives : FileContents) (shown : Shown) (rule : Rule) (a : Asked) (old new : SinkState) (d : Done) : Type 0 where
   pub parts : Parts
-  pub read : IsRead gives a.path parts
+  pub read : IsRead gives rule a.path parts
   pub middle : SinkState
   pub settled : IsUpToDate shown rule a parts old middle
   pub run : RunsTargets shown rule a parts middle new d

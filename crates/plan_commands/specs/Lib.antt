@@ -7,6 +7,7 @@ pub mod Dry
 pub mod Faults
 pub mod Images
 pub mod MakerMaps
+pub mod Recorded
 pub mod Replaying
 pub mod Verdicts
 pub mod Showing

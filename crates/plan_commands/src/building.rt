@@ -3,16 +3,12 @@
 ghost use Rattle.std.specs.Prelude.{◌≡◌, ◌⊎◌, IfErr, IfNone, IfOk, IfSome, None, OnOk, Ok, false, map, true, ◌∷◌, []};
 ghost use Rattle.std.specs.Result.{result_err};
 ghost use Rattle.plan_scope.specs.Loading.{IsMissing};
-ghost use Rattle.plan_scope.specs.Sound.{IsSound};
 ghost use Rattle.plan_scope.specs.Sources.{SameFiles};
-ghost use Rattle.plan_compile.specs.declared.baseline.OutOfDateRule.TheVariants as OutOfDateRule;
 ghost use Rattle.plan_machine.specs.Kept.{IsStateOf};
 ghost use Rattle.plan_machine.specs.State.{has_ended};
 ghost use Rattle.plan_machine.specs.Wanted.{any_outside};
 ghost use Rattle.plan_lanes.specs.Faults.{FaultReports};
 ghost use Rattle.plan_lanes.specs.Reports.{IsRunOf};
-ghost use Rattle.plan_commands.specs.Commands.{LacksGraph};
-ghost use Rattle.plan_commands.specs.Compiling.{IsImageOf, LacksImageOf};
 ghost use Rattle.plan_printing.specs.Faults as faults;
 ghost use Rattle.plan_commands.specs.Building as defined;
 ghost use Rattle.plan_commands.specs.Building.{Builds, EndsAs, EndsRound, HasRun, HasRunNothing, IsLost, IsNotRead, IsNotRun, IsRead, IsRoundOf, RoundStops, RunsTargets, Stops, TargetsStop};
@@ -20,18 +16,17 @@ ghost use Rattle.plan_commands.specs.Running.{EndsPrinted, report_in};
 ghost use Rattle.plan_commands.specs.Showing.{IsShown, by_format};
 
 use crate::commands::manifest_at;
-use crate::compiling::image_by;
 use crate::explaining::{Explained, Explainer};
 use crate::kept::Kept;
 use crate::printed_runs::{Printer, RunResult, run_and_show};
+use crate::recorded_image::image_recorded;
 use crate::running::{printed_lane_fault, printed_print_fault};
 use crate::targets::targets_of;
-use plan_compile::OutOfDateRule;
 use plan_image::{Image, edge_of};
 use plan_lanes::{Report, World};
 use plan_machine::{Options, Outcome};
 use plan_printing::{PlanFault, no_memory};
-use plan_scope::{Manifest, Source, loaded_manifests_are_sound};
+use plan_scope::{Source, loaded_manifests_are_sound};
 use plan_status::{Format, all_done};
 use plan_text::{Sink, TextFault, canonical};
 use plan_verify::Verified;
@@ -82,43 +77,28 @@ impl Done {
 /// The largest number of times that a manifest is remade.
 const MOST_ROUNDS: u32 = 100;
 
-/// Compiles a manifest into an image with the stricter out-of-date rule. The image isn't verified again, since the
-/// verifier accepts each image that the compiler makes.
-fn image_to_run<R: Threads + Sync>(
-    rt: &R,
-    alloc: Global,
-    manifest: &Manifest,
-) -> Result<Verified, PlanFault>
-    requires { IsSound manifest.now }
-    ensures image { IfOk result (λ image. IsImageOf OutOfDateRule.Stricter manifest.now image) }
-    ensures refused { IfErr result (λ fault. LacksGraph manifest.now fault ⊎ LacksImageOf OutOfDateRule.Stricter manifest.now fault) }
-{
-    match image_by(rt, alloc, manifest, OutOfDateRule::Stricter) {
-        Ok(image) => Ok(Verified::of_shaped(image)),
-        Err(fault) => Err(fault),
-    }
-}
-
-/// Reads the manifest at a path, and returns its image. Keeps the parts of the manifest that the build needs.
-fn read_image<S: Source, W: World, R: Threads + Sync>(
+/// Reads the manifest at a path, adds what the record adds to it, and returns its image. Keeps the parts of the
+/// manifest that the build needs.
+fn read_image<S: Source, W: World + Send + Sync, R: Threads + Sync>(
     rt: &R,
     alloc: Global,
     source: &mut S,
     path: &[u8],
+    world: &W,
     kept: &mut Kept,
 ) -> Result<Verified, PlanFault>
-    ensures read { IfOk result (λ p. IsRead (S.gives source.old) path.now p) }
+    ensures read { IfOk result (λ p. IsRead (S.gives source.old) W.allows path.now p) }
     ensures whole { OnOk result (S.failures source.new ≡ S.failures source.old) }
     ensures same { SameFiles (S.gives source.new) (S.fails source.new) (S.gives source.old) (S.fails source.old) }
     ensures refused { let missing = IsMissing (S.gives source.old) (S.fails source.old) (S.failures source.old) (S.failures source.new) in
-        IfErr result (λ fault. IsNotRead (S.gives source.old) missing path.now fault) }
+        IfErr result (λ fault. IsNotRead (S.gives source.old) missing W.allows path.now fault) }
 {
-    let manifest = match manifest_at(alloc, source, path) {
+    let mut manifest = match manifest_at(alloc, source, path) {
         Ok(manifest) => manifest,
         Err(fault) => return Err(fault),
     };
     loaded_manifests_are_sound::<S>();
-    let image = image_to_run(rt, alloc, &manifest);
+    let image = image_recorded(rt, alloc, world, &mut manifest);
     kept.keep::<W>(alloc, manifest);
     image
 }
@@ -275,7 +255,7 @@ pub(crate) fn update_manifest<
         (kept : F.Kept) → F.kept printer.format ≡ kept → IfErr result.0 (λ fault. RoundStops (S.gives source.old) missing (by_format F.kept F.tells kept) W.allows a (O.failures printer.out, O.taken printer.out) (O.failures result.1.out, O.taken result.1.out) fault) }
     ensures format { F.kept result.1.format ≡ F.kept printer.format }
 {
-    let image = match read_image::<S, W, R>(rt, alloc, source, order.manifest, kept) {
+    let image = match read_image::<S, W, R>(rt, alloc, source, order.manifest, world, kept) {
         Ok(image) => image,
         Err(fault) => return (Err(fault), printer),
     };

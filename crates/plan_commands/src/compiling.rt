@@ -56,7 +56,7 @@ pub fn image_of(alloc: Global, manifest: &Manifest, rule: OutOfDateRule) -> Resu
 
 /// Builds the graph of a manifest, and collects its names meanwhile. If no thread can be started, collects them
 /// before or after.
-fn graph_and_names<'a, R: Threads + Sync>(
+pub(crate) fn graph_and_names<'a, R: Threads + Sync>(
     rt: &R,
     alloc: Global,
     manifest: &'a Manifest,
@@ -77,7 +77,7 @@ fn graph_and_names<'a, R: Threads + Sync>(
 }
 
 /// Compiles like `image_of`, given the graph of the manifest and its names.
-fn image_with<'a, R: Threads + Sync>(
+pub(crate) fn image_with<'a, R: Threads + Sync>(
     rt: &R,
     alloc: Global,
     manifest: &'a Manifest,
@@ -101,7 +101,7 @@ fn image_with<'a, R: Threads + Sync>(
 }
 
 /// The number of edges from which on a second thread saves more time than its start takes.
-const FEW_EDGES: usize = 500;
+pub(crate) const FEW_EDGES: usize = 500;
 
 /// Compiles like `image_of`, and fails as it does, but builds the graph of the manifest and collects its names side by
 /// side, unless the manifest has few edges.

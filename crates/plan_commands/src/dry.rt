@@ -14,7 +14,7 @@ use plan_machine::Reply;
 use plan_printing::PlanFault;
 use plan_scope::Source;
 use plan_status::Format;
-use plan_text::{RowList, Sink};
+use plan_text::{PathFilter, RowList, Sink};
 use plan_verify::PathList;
 use std::alloc::{AllocError, Global};
 use std::sync::{Mutex, Wait};
@@ -62,12 +62,41 @@ impl<R: Wait, W: World> World for DryWorld<'_, R, W> {
         self.world.stat(number, path)
     }
 
+    fn stat_ahead(&self, path: &[u8]) -> Option<u64> {
+        self.world.stat_ahead(path)
+    }
+
     fn recall(&self, number: u64, output: &[u8]) -> Result<Reply, AllocError> {
         self.world.recall(number, output)
     }
 
-    fn forget(&self, output: &[u8]) -> Result<(), AllocError> {
-        self.world.forget(output)
+    fn recorded_among(
+        &self,
+        alloc: Global,
+        output: &[u8],
+        wanted: &PathFilter,
+    ) -> Result<Option<RowList<u8>>, AllocError> {
+        self.world.recorded_among(alloc, output, wanted)
+    }
+
+    fn record_stamp(&self) -> Option<u64> {
+        self.world.record_stamp()
+    }
+
+    fn first_begin(&self) -> Option<u64> {
+        self.world.first_begin()
+    }
+
+    fn is_file(&self, path: &[u8]) -> bool {
+        self.world.is_file(path)
+    }
+
+    fn is_made_with(&self, output: &[u8], first: &[u8]) -> Result<bool, AllocError> {
+        self.world.is_made_with(output, first)
+    }
+
+    fn forget(&self, output: &[u8], reason: &[u8]) -> Result<(), AllocError> {
+        self.world.forget(output, reason)
     }
 
     fn explain(&self, edge: &[u8], reason: &[u8]) {

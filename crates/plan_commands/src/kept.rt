@@ -47,8 +47,8 @@ impl Kept {
         }
     }
 
-    /// Keeps what the build needs of a manifest, instead of what it kept of the one before. Without memory for it, nothing
-    /// is explained, and no edge counts as one with `restat`.
+    /// Keeps what the build needs of a manifest, instead of what it kept of the one before. Without memory for it,
+    /// nothing is explained, and no edge counts as one with `restat`.
     pub(crate) fn keep<W: World>(&mut self, alloc: Global, manifest: Manifest)
         requires { IsSound manifest }
     {

@@ -5,10 +5,11 @@ ghost use Rattle.std.specs.Borrow.{ftrue};
 
 use std::marker::{Model, PhantomData};
 
-/// A list of values that only clauses read, as `items`. It has no bytes, and its functions do nothing when a program runs.
+/// A list of values that only clauses read, as `items`. It has no bytes, and its functions do nothing when a program
+/// runs.
 ///
-/// A struct has one if its clauses speak of all that happened so far, and the program needs none of it. The list is a value
-/// for which a proof exists, as a value that a clause says to exist: nothing at run time can be asked of it.
+/// A struct has one if its clauses speak of all that happened so far, and the program needs none of it. The list is a
+/// value for which a proof exists, as a value that a clause says to exist: nothing at run time can be asked of it.
 #[derive(Drop)]
 pub struct History<T> {
     of: PhantomData<T>,

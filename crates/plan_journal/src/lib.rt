@@ -1,7 +1,7 @@
 //! Journals: the events of a run in their order.
 //!
-//! - `JournalBuilder`: a journal that grows and is cut back at its end. If `Keeping` says so, it has the replies of each
-//!   edge at hand.
+//! - `JournalBuilder`: a journal that grows and is cut back at its end. If `Keeping` says so, it has the replies of
+//!   each edge at hand.
 //! - `Journal`: the events of a run. A program sees only their number.
 //! - `KeptJournal`: the same events in columns, to be read. There is one if `Keeping` says so.
 //! - `Events`: the events of a kept journal that aren't read yet. `ReadEvent`: an event that was read.

@@ -1,4 +1,5 @@
 mod AlikeLemmas
+mod RecallingLemmas
 mod ListLemmas
 mod RunLemmas
 mod JournalLemmas

@@ -1,6 +1,6 @@
 -- The definitions, computed on small journals.
 use Rattle.std.proofs.Common.{◌≡◌, ◌+◌, ◌<◌, ℕ, zero, suc, true, false, List, [], ◌∷◌, Some, None, refl, arith}
-use Rattle.std.specs.Prelude.{slice_get}
+use Rattle.std.specs.Prelude.{slice_get, Contains}
 use Rattle.plan_image.specs.declared.body.Instr.TheVariants as op
 use Rattle.plan_image.specs.declared.image.Sort.TheVariants as sort
 use Rattle.plan_image.specs.declared.image.EdgeCode.TheVariants.{Own}
@@ -21,6 +21,7 @@ use Rattle.plan_lanes.specs.Journals.{Rule, IsLastOf, IsAllowed}
 use Rattle.plan_lanes.specs.Proceeds as proceeds
 use Rattle.plan_lanes.specs.Progress.{Progress, opened_with}
 use Rattle.plan_lanes.specs.Questions.{is_run, shown}
+use Rattle.plan_lanes.specs.Recalled.{AreAmong, paths_of}
 use Rattle.plan_lanes.specs.Running.{awaits_run}
 use Rattle.plan_lanes.specs.LocalRuns.{AppliesAll}
 use Rattle.plan_lanes.specs.StampRows.{HaveStamps}
@@ -34,6 +35,23 @@ sweep_asks_for_one = refl
 
 run_is_one : shown (asked.Run (120 ∷ []) ((97 ∷ []) ∷ [])) ≡ Run (120 ∷ []) ((97 ∷ []) ∷ [])
 run_is_one = refl
+
+entry_names_its_paths : paths_of (reply.Entry (record { command = []; basis = 0; paths = (97 ∷ []) ∷ [] })) ≡ (97 ∷ []) ∷ []
+entry_names_its_paths = refl
+
+nothing_names_no_paths : paths_of reply.Nothing ≡ []
+nothing_names_no_paths = refl
+
+-- of the paths `a` and `b`, `a` is found if it is wanted
+wanted_path_is_found : (found : List (List ℕ)) → AreAmong ((97 ∷ []) ∷ []) ((97 ∷ []) ∷ (98 ∷ []) ∷ []) found → Contains found (97 ∷ [])
+wanted_path_is_found found among = among.all (97 ∷ []) (0, omega arith, refl) (0, omega arith, refl)
+
+-- no path is found that the entry doesn't name
+other_path_is_not_found : AreAmong [] [] ((97 ∷ []) ∷ []) → ⊥
+other_path_is_not_found among =
+    let there : Contains {X = List ℕ} [] (97 ∷ []) = among.some (97 ∷ []) (0, omega arith, refl) in
+    let lt : there.0 < 0 = there.1 in
+    omega (arith, lt)
 
 no_lane : (r : Report) → number_of (NoLane r) ≡ 121
 no_lane r = refl

@@ -1,6 +1,7 @@
 pub mod Questions
 pub mod Alike
 pub mod Journals
+pub mod Recalled
 pub mod StampRows
 pub mod Progress
 pub mod ObservableMarks

@@ -5,9 +5,9 @@ ghost use Rattle.std.specs.Prelude.{◌≡◌};
 use crate::board::Permit;
 use crate::world::World;
 use plan_machine::Reply;
-use plan_text::RowList;
+use plan_text::{PathFilter, RowList};
 use plan_verify::PathList;
-use std::alloc::AllocError;
+use std::alloc::{AllocError, Global};
 
 /// Another world, whose runs keep their journals. It passes all questions on.
 #[derive(Drop)]
@@ -53,8 +53,33 @@ impl<W: World> World for Journaled<'_, W> {
         self.world.recall(number, output)
     }
 
-    fn forget(&self, output: &[u8]) -> Result<(), AllocError> {
-        self.world.forget(output)
+    fn recorded_among(
+        &self,
+        alloc: Global,
+        output: &[u8],
+        wanted: &PathFilter,
+    ) -> Result<Option<RowList<u8>>, AllocError> {
+        self.world.recorded_among(alloc, output, wanted)
+    }
+
+    fn record_stamp(&self) -> Option<u64> {
+        self.world.record_stamp()
+    }
+
+    fn first_begin(&self) -> Option<u64> {
+        self.world.first_begin()
+    }
+
+    fn is_file(&self, path: &[u8]) -> bool {
+        self.world.is_file(path)
+    }
+
+    fn is_made_with(&self, output: &[u8], first: &[u8]) -> Result<bool, AllocError> {
+        self.world.is_made_with(output, first)
+    }
+
+    fn forget(&self, output: &[u8], reason: &[u8]) -> Result<(), AllocError> {
+        self.world.forget(output, reason)
     }
 
     fn explain(&self, edge: &[u8], reason: &[u8]) {

@@ -4,12 +4,14 @@ ghost use Rattle.std.specs.Prelude.{ℕ, ◌≡◌, IfOk, IfSome};
 ghost use Rattle.plan_machine.specs.declared.event.reply.Reply.{Reply as Answer};
 ghost use Rattle.plan_machine.specs.declared.event.reply.Reply.TheVariants.{Stamp};
 ghost use Rattle.plan_verify.specs.Turn.{Deps, Keep, Recall, Request, Run, Stat};
+ghost use Rattle.plan_lanes.specs.Recalled.{RecallsAmong};
 
 use crate::board::Permit;
+use crate::recalling::replied_among;
 use plan_machine::Reply;
-use plan_text::RowList;
+use plan_text::{PathFilter, RowList};
 use plan_verify::PathList;
-use std::alloc::AllocError;
+use std::alloc::{AllocError, Global};
 
 /// The world outside a run. Each call returns the reply to a request of an edge. The number of the question is the
 /// position in the journal of the event that asked. Lanes call the world from several threads at once, never under a
@@ -55,12 +57,57 @@ pub trait World {
     fn recall(&self, number: u64, output: &[u8]) -> Result<Reply, AllocError>
         ensures { IfOk result (λ r. Self.allows number (Recall output.now) r) };
 
+    /// Returns the paths of the entry that the record has for an output, except those that are not in a set. The set
+    /// may say too often that it has a path. Returns None if there is no entry of a command that ended.
+    ///
+    /// # Errors
+    /// `AllocError` if memory runs out.
+    fn recorded_among(
+        &self,
+        alloc: Global,
+        output: &[u8],
+        wanted: &PathFilter,
+    ) -> Result<Option<RowList<u8>>, AllocError>
+        ensures { IfOk result (λ found. IfSome found (λ paths. RecallsAmong Self.allows wanted.now output.now paths)) }
+    {
+        let reply = self.recall(0, output)?;
+        replied_among(alloc, &reply, wanted)
+    }
+
+    /// Returns when the record was last written before this build opened it: the stamp of its file. Returns None if
+    /// there was no record, or if this isn't known.
+    fn record_stamp(&self) -> Option<u64> {
+        None
+    }
+
+    /// Returns when the first command of this build began: the stamp that a file would have got then. Returns None if
+    /// no command has begun, or if this isn't known.
+    fn first_begin(&self) -> Option<u64> {
+        None
+    }
+
+    /// Checks whether a path is that of a file. Folders and symbolic links aren't files: their stamps change if other
+    /// files do. A world that doesn't know says yes.
+    fn is_file(&self, _path: &[u8]) -> bool {
+        true
+    }
+
+    /// Checks whether an output was last made by the edge that has `first` as its first output, as far as the record
+    /// tells. A world that doesn't know says yes.
+    ///
+    /// # Errors
+    /// `AllocError` if memory runs out.
+    fn is_made_with(&self, _output: &[u8], _first: &[u8]) -> Result<bool, AllocError> {
+        Ok(true)
+    }
+
     /// Ends the entry of an output for this build: its edge is out of date until its command has begun again. The
-    /// record stays as it is. A world without a record does nothing.
+    /// record stays as it is. A world without a record does nothing. The world shows this reason in words when the
+    /// command is going to run, instead of the reason that `explain` gets. If it is empty, it shows the latter.
     ///
     /// # Errors
     /// `AllocError` if memory runs out. The entry may not have ended then.
-    fn forget(&self, _output: &[u8]) -> Result<(), AllocError> {
+    fn forget(&self, _output: &[u8], _reason: &[u8]) -> Result<(), AllocError> {
         Ok(())
     }
 

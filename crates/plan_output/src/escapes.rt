@@ -12,7 +12,8 @@ pub enum Reading {
     Text,
     /// It read `ESC`, and perhaps intermediate bytes.
     Escape,
-    /// It is in a control sequence, which begins with `ESC [` and ends with a letter or one of `@[\]^_` and `` `{|}~ ``.
+    /// It is in a control sequence, which begins with `ESC [` and ends with a letter or one of `@[\]^_` and `` `{|}~
+    /// ``.
     ControlSequence,
     /// It is in a control string, such as a link or a title, which ends with `BEL` or with another escape sequence.
     ControlString,

@@ -8,8 +8,8 @@ pub trait Outputs {
     /// proved for every meaning of it, so they show nothing that wasn't taken.
     ghost taken: { Self → List ℕ → Option (List ℕ) → Type 0 };
 
-    /// Takes what the command of an edge printed. `edge` is the path of the edge's first output. Returns None if nothing
-    /// waits for the edge.
+    /// Takes what the command of an edge printed. `edge` is the path of the edge's first output. Returns None if
+    /// nothing waits for the edge.
     fn take(&self, edge: &[u8]) -> Option<Vec<u8>>
         ensures { Self.taken self.now edge.now (option_map (λ text. text.items) result) };
 

@@ -67,8 +67,8 @@ pub(crate) fn times_then(
     Ok(all)
 }
 
-/// Returns how many commands finish in ten seconds, if so many do in a time. None if the time is 0, or if a number is too
-/// large for a `u64`.
+/// Returns how many commands finish in ten seconds, if so many do in a time. None if the time is 0, or if a number is
+/// too large for a `u64`.
 pub(crate) fn per_ten_seconds(count: u64, time: u64) -> Option<u64>
     ensures { IfSome result (λ n. n ≡ defined.per_ten_seconds count time) }
 {

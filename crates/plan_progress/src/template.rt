@@ -135,8 +135,8 @@ fn seconds_text(alloc: Global, number: u64) -> Result<Vec<u8>, AllocError>
     )
 }
 
-/// Returns the milliseconds until the build ends, if commands go on as they did. None before a command has finished, and
-/// if the number is too large for a `u64`.
+/// Returns the milliseconds until the build ends, if commands go on as they did. None before a command has finished,
+/// and if the number is too large for a `u64`.
 fn eta(numbers: Numbers) -> Option<u64>
     ensures { result ≡ defined.eta numbers }
 {
@@ -406,8 +406,8 @@ fn is_unknown(escaped: bool, byte: u8) -> bool
     escaped & placeholder_of(byte).is_none()
 }
 
-/// Returns the first byte of a template that comes after a percent sign and is no placeholder. If the template ends with
-/// a percent sign, the byte is 0. Returns None if all placeholders are known.
+/// Returns the first byte of a template that comes after a percent sign and is no placeholder. If the template ends
+/// with a percent sign, the byte is 0. Returns None if all placeholders are known.
 pub fn unknown_placeholder(template: &[u8]) -> Option<u8>
     ensures { result ≡ defined.unknown_placeholder template.now }
 {

@@ -9,7 +9,7 @@ use crate::commands::{Commands, Moment, Running};
 use crate::kept::{KeptStamp, StampTable};
 use plan_lanes::{Permit, World};
 use plan_machine::Reply;
-use plan_text::RowList;
+use plan_text::{PathFilter, RowList};
 use plan_verify::PathList;
 use std::alloc::{AllocError, Global};
 use std::sync::Wait;
@@ -195,8 +195,33 @@ impl<R: Wait, W: World> World for StampCache<'_, R, W> {
         self.inner.world.recall(number, output)
     }
 
-    fn forget(&self, output: &[u8]) -> Result<(), AllocError> {
-        self.inner.world.forget(output)
+    fn recorded_among(
+        &self,
+        alloc: Global,
+        output: &[u8],
+        wanted: &PathFilter,
+    ) -> Result<Option<RowList<u8>>, AllocError> {
+        self.inner.world.recorded_among(alloc, output, wanted)
+    }
+
+    fn record_stamp(&self) -> Option<u64> {
+        self.inner.world.record_stamp()
+    }
+
+    fn first_begin(&self) -> Option<u64> {
+        self.inner.world.first_begin()
+    }
+
+    fn is_file(&self, path: &[u8]) -> bool {
+        self.inner.world.is_file(path)
+    }
+
+    fn is_made_with(&self, output: &[u8], first: &[u8]) -> Result<bool, AllocError> {
+        self.inner.world.is_made_with(output, first)
+    }
+
+    fn forget(&self, output: &[u8], reason: &[u8]) -> Result<(), AllocError> {
+        self.inner.world.forget(output, reason)
     }
 
     fn explain(&self, edge: &[u8], reason: &[u8]) {

@@ -168,8 +168,8 @@ impl Consoles {
 }
 
 /// Returns how many marks of a run, from the first on, may be reported while it goes on: the greatest number of them
-/// after which no console edge holds a job token, so that its command isn't running. The mark after them may be reported
-/// too: by it a console edge takes its job token. Lines of other marks wait until its command has ended.
+/// after which no console edge holds a job token, so that its command isn't running. The mark after them may be
+/// reported too: by it a console edge takes its job token. Lines of other marks wait until its command has ended.
 ///
 /// # Errors
 /// `AllocError` if memory runs out.

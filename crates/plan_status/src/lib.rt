@@ -5,8 +5,8 @@
 //! - `PrintFault`: why a text wasn't printed to its end.
 //! - `Format`: text for marks, one after another. `StatusLines` is the format of these lines.
 //! - `live`: a ring through which marks are printed while a run goes on. Lanes fill its `Feed` by a `LineProgress`.
-//!   Another thread prints from its `Tap` by a format, and `settle` prints the rest when lanes are done. `print_by` prints
-//!   all marks at once.
+//!   Another thread prints from its `Tap` by a format, and `settle` prints the rest when lanes are done. `print_by`
+//!   prints all marks at once.
 //! - `is_console`, `free_marks`: edges whose commands have the terminal, and how many marks are reported meanwhile.
 //! - `lines_join`, `lines_are_printed`, `prints_join`, `marks_may_come`, `ends_stay`: laws about all lines, prints and
 //!   rings, for the proofs of the crates above.

@@ -337,6 +337,19 @@ fn earlier_of_two_baselines(rt: HostRuntime) -> Result<(), AllocError> {
     Ok(())
 }
 
+/// Returns a phony of file 7 with a named source file, a named output of an edge and an order-only source file.
+fn gathering(alloc: Global, baseline: Baseline) -> Result<GatherLayout, AllocError> {
+    Ok(GatherLayout {
+        named: items(alloc, [Input::File(3), Input::Made(0, 1)].as_slice())?,
+        order_only: items(alloc, [4].as_slice())?,
+        outputs: items(alloc, [output(7, 2, 3)].as_slice())?,
+        flags: items(alloc, [1].as_slice())?,
+        stamp: 2,
+        changed: 3,
+        baseline,
+    })
+}
+
 #[test]
 fn phonies(rt: HostRuntime) -> Result<(), AllocError> {
     let outputs = items(rt.alloc(), [output(7, 0, 1)].as_slice())?;
@@ -349,14 +362,7 @@ fn phonies(rt: HostRuntime) -> Result<(), AllocError> {
         Instr::End,
     ];
     assert!(rt; is_code(rt.alloc(), &EdgeLayout::Alone(outputs), alone.as_slice()) == Ok(true));
-    let layout = GatherLayout {
-        named: items(rt.alloc(), [Input::File(3), Input::Made(0, 1)].as_slice())?,
-        order_only: items(rt.alloc(), [4].as_slice())?,
-        outputs: items(rt.alloc(), [output(7, 2, 3)].as_slice())?,
-        flags: items(rt.alloc(), [1].as_slice())?,
-        stamp: 2,
-        changed: 3,
-    };
+    let layout = gathering(rt.alloc(), Baseline::Outputs)?;
     let gathered = [
         Instr::Need(4),
         Instr::Drop,
@@ -368,6 +374,29 @@ fn phonies(rt: HostRuntime) -> Result<(), AllocError> {
         Instr::Store(3),
         Instr::End,
     ];
+    assert!(rt; is_code(rt.alloc(), &EdgeLayout::Gather(layout), gathered.as_slice()) == Ok(true));
+    Ok(())
+}
+
+#[test]
+fn phony_that_asks_for_its_files(rt: HostRuntime) -> Result<(), AllocError> {
+    let gathered = [
+        Instr::Need(4),
+        Instr::Drop,
+        Instr::Need(3),
+        Instr::Load(0),
+        Instr::Newer,
+        Instr::Stat(7),
+        Instr::Newer,
+        Instr::Stat(8),
+        Instr::Newer,
+        Instr::Store(2),
+        Instr::Load(1),
+        Instr::Store(3),
+        Instr::End,
+    ];
+    let mut layout = gathering(rt.alloc(), Baseline::OutputsAndBasis)?;
+    layout.outputs = items(rt.alloc(), [output(7, 2, 3), output(8, 2, 3)].as_slice())?;
     assert!(rt; is_code(rt.alloc(), &EdgeLayout::Gather(layout), gathered.as_slice()) == Ok(true));
     Ok(())
 }

@@ -3,7 +3,7 @@
 use crate::outcome::value_of;
 use byteorder::{BigEndian, ByteOrder};
 use plan_record::*;
-use plan_text::{Counted, Items, Memory, RowList};
+use plan_text::{Counted, Items, Memory, PathFilter, RowList};
 use plan_verify::PathList;
 use std::alloc::{AllocError, Global};
 use std::io::{self, Write};
@@ -419,6 +419,27 @@ fn paths_one_by_one(rt: HostRuntime) -> Result<(), Fail> {
     assert!(rt; paths.first().is_none());
     paths.advance();
     assert!(rt; paths.first().is_none());
+    Ok(())
+}
+
+/// Returns which paths of an entry are in the set of this path.
+fn found_among(alloc: Global, paths: &Paths, path: &[u8]) -> Result<RowList<u8>, Fail> {
+    let mut wanted = PathFilter::new(alloc, 1)?;
+    wanted.add(path);
+    Ok(paths.among(alloc, &wanted)?)
+}
+
+/// Checks which of the remaining paths are in a set.
+#[test]
+fn paths_in_a_set(rt: HostRuntime) -> Result<(), Fail> {
+    let entry = entry_of_paths(rt.alloc())?;
+    let mut paths = value_of(entry.paths())?;
+    let found = found_among(rt.alloc(), &paths, b"a.h")?;
+    assert_eq!(rt; found.len(), 1);
+    assert_eq!(rt; found.row(0), b"a.h".as_slice());
+    paths.advance();
+    assert_eq!(rt; found_among(rt.alloc(), &paths, b"a.h")?.len(), 0);
+    assert_eq!(rt; found_among(rt.alloc(), &paths, b"b/c.h")?.len(), 1);
     Ok(())
 }
 

@@ -294,3 +294,29 @@ fn first_fault(rt: HostRuntime) -> Result<(), Fail> {
     assert!(rt; refusal(rt.alloc(), text) == 52);
     Ok(())
 }
+
+/// Checks which cycle a further wait closes in the graph of three edges. No edges are expected if there is none.
+fn closes(alloc: Global, edge: u32, maker: u32, expected: &[usize]) -> bool {
+    let Some(manifest) = manifest_of(alloc, THREE) else {
+        return false;
+    };
+    let Ok(graph) = graph(alloc, &manifest) else {
+        return false;
+    };
+    match cycle_with(alloc, &graph, &[Wait { edge, maker }]) {
+        Ok(Some(cycle)) => cycle.as_slice() == expected,
+        Ok(None) => expected.is_empty(),
+        Err(_) => false,
+    }
+}
+
+/// Checks that a further wait closes a cycle if its edge is waited for, and that a wait for no edge is left out.
+#[test]
+fn cycles_with_further_waits(rt: HostRuntime) -> Result<(), Fail> {
+    assert!(rt; closes(rt.alloc(), 1, 0, &[0, 1]));
+    assert!(rt; closes(rt.alloc(), 1, 2, &[1, 2]));
+    assert!(rt; closes(rt.alloc(), 1, 1, &[1]));
+    assert!(rt; closes(rt.alloc(), 0, 1, &[]));
+    assert!(rt; closes(rt.alloc(), 2, 3, &[]));
+    Ok(())
+}

@@ -2,6 +2,7 @@
 
 mod boards;
 mod chain;
+mod recorded;
 mod sweeps;
 
 use plan_image::{Edge, EdgeCode, Edges, Image, Instr, Parts, Sort};

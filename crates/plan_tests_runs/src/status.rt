@@ -99,8 +99,8 @@ fn tell(alloc: Global, marks: &[Mark], text: &[u8]) -> bool {
     }
 }
 
-/// Shows the marks, prints those that are in the ring, shows the marks again and settles. Returns whether all lines were
-/// written.
+/// Shows the marks, prints those that are in the ring, shows the marks again and settles. Returns whether all lines
+/// were written.
 fn settled<W: Sink>(image: &Verified, marks: &[Mark], ends: (Feed, Tap), out: &mut W) -> bool
     requires ends { AreEnds ends.0 ends.1 }
     requires unused { IsUnused ends.0 }

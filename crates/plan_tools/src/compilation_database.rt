@@ -196,8 +196,8 @@ fn write_rest<W: Sink>(
     }
 }
 
-/// Writes the compilation database of some edges: a JSON array that has for each an object with the folder, the command,
-/// the first input and the first output.
+/// Writes the compilation database of some edges: a JSON array that has for each an object with the folder, the
+/// command, the first input and the first output.
 ///
 /// # Errors
 /// A write failed: then the sink took a front of the text.

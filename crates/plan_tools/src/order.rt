@@ -202,9 +202,9 @@ impl<'a, 'g> Walk<'a, 'g> {
     }
 }
 
-/// Returns the edges that some edges need, and these, in an order in which they can be run one at a time: each behind all
-/// that it waits for. It is ninja's: depth first, along the inputs of an edge in the order in which its build line names
-/// them.
+/// Returns the edges that some edges need, and these, in an order in which they can be run one at a time: each behind
+/// all that it waits for. It is ninja's: depth first, along the inputs of an edge in the order in which its build line
+/// names them.
 ///
 /// # Errors
 /// Memory runs out, or there is no such order.

@@ -1,15 +1,16 @@
 -- Replies that suit their questions. Serves src/depfile.rt and src/world.rt.
-use Rattle.std.proofs.Common.{◌≡◌, List, ℕ, [], Option, Some, None, Result, Ok, Err, inl, inr, refl, sym, subst}
-use Rattle.std.specs.Prelude.{IfErr, IfOk, IsUtf8, ℤ}
+use Rattle.std.proofs.Common.{◌≡◌, List, ℕ, [], Option, Some, None, Result, Ok, Err, inl, inr, refl, sym, subst, arith}
+use Rattle.std.specs.Prelude.{IfErr, IfOk, IfSome, IsUtf8, ℤ}
 use Rattle.std.specs.declared.alloc.Global.{Global}
 use Rattle.std.specs.declared.process.command.Command.{Command}
 use Rattle.plan_record.specs.Entries.{EntryData}
 use Rattle.plan_verify.specs.Turn.{Stat, Recall, Run, Deps}
 use Rattle.plan_machine.specs.Recording.{Recording}
 use Rattle.plan_machine.specs.declared.event.reply.Reply.{Reply}
-use Rattle.plan_machine.specs.declared.event.reply.Reply.TheVariants.{Bytes, Fault, NotStarted}
+use Rattle.plan_machine.specs.declared.event.reply.Reply.TheVariants.{Bytes, Entry, Fault, NotStarted}
+use Rattle.plan_lanes.specs.Recalled.{RecallsAmong}
 use Rattle.plan_world.specs.Answers.{IsAnswer, IsByShell, MayAnswer, NamesAskable}
-use Rattle.plan_world.specs.Askable.{IsRecalled, RecallsAs}
+use Rattle.plan_world.specs.Askable.{AreAskable, IsRecalled, RecallsAs}
 use Rattle.plan_world.specs.Depfiles.{IsDepfileOf, IsFrontOf, longest}
 use Rattle.plan_world.specs.Shells.{AreTexts, HasRun, IsShellOf, ending}
 
@@ -62,6 +63,22 @@ pub may_recall : (ended : Command Global → Option ℤ → Type 0) {E : Type 0}
     → IfOk told (λ r. IsRecalled found r) → IfOk told (λ r. MayAnswer ended (Recall output) r)
 may_recall ended output found (Ok r) answer recalled = record { answer = answer; texts = recalled_names found r recalled; run = tt }
 may_recall ended output found (Err e) answer recalled = tt
+
+-- ---- paths of entries that may be recalled
+
+-- An entry may be recalled that names just these paths.
+recalls_found : (ended : Command Global → Option ℤ → Type 0) (wanted : List (List ℕ)) (output : List ℕ) (found : List (List ℕ)) → AreAskable found
+    → RecallsAmong (λ _ question r. MayAnswer ended question r) wanted output found
+recalls_found ended wanted output found askable =
+    let said : Recording = record { command = []; basis = 0; paths = found } in
+    let may : MayAnswer ended (Recall output) (Entry said) = record { answer = record { suits = refl; short = λ bytes same. absurd cc }; texts = askable; run = tt } in
+    (found, (0, Entry said, may, refl), record { some = λ path here. here; all = λ path here w. here })
+
+-- The same of paths that may not have been found.
+pub recalls_if_found : (ended : Command Global → Option ℤ → Type 0) (wanted : List (List ℕ)) (output : List ℕ) (found : Option (List (List ℕ)))
+    → IfSome found (λ paths. AreAskable paths) → IfSome found (λ paths. RecallsAmong (λ _ question r. MayAnswer ended question r) wanted output paths)
+recalls_if_found ended wanted output None askable = tt
+recalls_if_found ended wanted output (Some paths) askable = recalls_found ended wanted output paths askable
 
 -- what the entry that was found says is replied
 pub recalled_as : (found : Option EntryData) (e : EntryData) (said : Recording) (r : Reply) → found ≡ Some e

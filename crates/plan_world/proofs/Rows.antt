@@ -11,6 +11,7 @@ use Rattle.plan_machine.specs.declared.event.reply.Reply.TheVariants.{Stamp, Exi
 use Rattle.plan_world.specs.Askable.{is_name}
 use Rattle.plan_world.specs.StartRecorded.{begun, begun_with, missing_path, started}
 use Rattle.plan_world.specs.Recording.{EndsWith, edge_entry, may_begin}
+use Rattle.plan_world.specs.NinjaLog.{log_lines}
 use Rattle.plan_world.specs.Rewriting.{restated}
 use Rattle.plan_world.specs.Shells.{ending, record_variable}
 use Rattle.plan_world.specs.Stamps.{stamp_of}
@@ -121,3 +122,7 @@ other_edge_ends = refl
 -- the edge of `p` again
 same_edge_begins : started (begun_with (112 ∷ []) (113 ∷ []) ∷ edge_entry (112 ∷ []) (116 ∷ []) 7 [] ∷ []) ((112 ∷ []) ∷ (113 ∷ []) ∷ []) ≡ begun_with (112 ∷ []) (113 ∷ []) ∷ begun (112 ∷ []) ∷ []
 same_edge_begins = refl
+
+-- the lines of `a` and `b` in ninja's log, each between "0", a tab and a tab, "0", a line feed
+two_lines : log_lines (48 ∷ 9 ∷ []) (9 ∷ 48 ∷ 10 ∷ []) ((97 ∷ []) ∷ (98 ∷ []) ∷ []) ≡ 48 ∷ 9 ∷ 97 ∷ 9 ∷ 48 ∷ 10 ∷ 48 ∷ 9 ∷ 98 ∷ 9 ∷ 48 ∷ 10 ∷ []
+two_lines = refl

@@ -3,6 +3,7 @@ pub mod Askable
 pub mod StartRecorded
 pub mod Depfiles
 pub mod Faults
+pub mod NinjaLog
 pub mod Parts
 pub mod Shells
 pub mod Stamps

@@ -5,6 +5,7 @@ ghost use Rattle.std.specs.List.{list_all, position_or_len};
 ghost use Rattle.plan_text.specs.Path.{components_of};
 ghost use Rattle.plan_world.specs.Askable.{AreAskable, IsAskable, is_name, is_plain_byte};
 
+use plan_text::RowList;
 use plan_verify::PathList;
 use std::str;
 
@@ -84,6 +85,18 @@ pub(crate) fn are_askable(paths: &PathList) -> bool
 {
     for number in 0..paths.len() {
         if !is_askable(paths.path(number)) {
+            return false;
+        }
+    }
+    true
+}
+
+/// Checks whether the system can be asked about each of these paths, which are rows.
+pub(crate) fn are_rows_askable(paths: &RowList<u8>) -> bool
+    ensures { IsTrue result ↔ AreAskable paths.now }
+{
+    for number in 0..paths.len() {
+        if !is_askable(paths.row(number)) {
             return false;
         }
     }

@@ -3,13 +3,14 @@
 ghost use Rattle.std.specs.Prelude.{◌≤◌};
 
 use crate::fault::DeviceFault;
+use crate::ninja_log::NinjaLog;
 use crate::stamp::stamp_of;
 use indexmap::IndexMap;
 use plan_verify::PathList;
 use std::alloc::Global;
 use std::rt::Files;
 use std::str;
-use std::sync::atomic::{AtomicBool, Ordering};
+use std::sync::atomic::{AtomicBool, AtomicU64, Ordering};
 use std::sync::{Mutex, Wait};
 
 /// How much later than the file system's clock a stamp may be, in nanoseconds, before a warning is printed.
@@ -20,8 +21,12 @@ const TOLERANCE: u64 = 2_000_000_000;
 pub(crate) struct Begins {
     alloc: Global,
     stamps: Mutex<IndexMap<Vec<u8>, u64>>,
+    /// The stamp of the first begin, or 0 if no command has begun.
+    first: AtomicU64,
     /// Whether a warning of a file of the future was printed.
     has_warned: AtomicBool,
+    /// ninja's own log, in which their outputs are marked.
+    ninja_log: NinjaLog,
 }
 
 /// Returns the basis of the entry of a command that began at a stamp: what it read is at most as new as its begin.
@@ -40,21 +45,40 @@ pub(crate) fn is_later(stamp: u64, now: u64) -> bool {
 }
 
 impl Begins {
-    /// Creates an empty list.
-    pub(crate) fn new(alloc: Global) -> Begins {
+    /// Creates an empty list, next to a log of ninja.
+    pub(crate) fn new(alloc: Global, ninja_log: NinjaLog) -> Begins {
         Begins {
             alloc,
             stamps: Mutex::new(IndexMap::new(alloc)),
+            first: AtomicU64::new(0),
             has_warned: AtomicBool::new(false),
+            ninja_log,
         }
+    }
+
+    /// Returns ninja's log.
+    pub(crate) fn ninja_log(&self) -> &NinjaLog {
+        &self.ninja_log
     }
 
     /// Adds the begin of the command of an edge.
     pub(crate) fn add<R: Wait>(&self, rt: &R, edge: &[u8], begin: u64) -> Result<(), DeviceFault> {
         let edge = Vec::from_slice(self.alloc, edge)?;
-        match self.stamps.lock(rt).insert(edge, begin) {
+        let mut stamps = self.stamps.lock(rt);
+        if self.first.load(Ordering::SeqCst) == 0 {
+            self.first.store(begin, Ordering::SeqCst);
+        }
+        match stamps.insert(edge, begin) {
             Ok(_) => Ok(()),
             Err(_) => Err(DeviceFault::Memory),
+        }
+    }
+
+    /// Returns the begin of the first command. Returns None if none has begun.
+    pub(crate) fn first(&self) -> Option<u64> {
+        match self.first.load(Ordering::SeqCst) {
+            0 => None,
+            begin => Some(begin),
         }
     }
 

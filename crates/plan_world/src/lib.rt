@@ -19,6 +19,7 @@ mod ended_entries;
 mod fault;
 mod holders;
 mod maintenance;
+mod ninja_log;
 mod parts;
 mod processes;
 mod reasons;

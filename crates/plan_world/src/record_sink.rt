@@ -1,8 +1,9 @@
 //! The record's file as a sink, and conversions between the machine's and the record's forms of an entry. Other
 //! builders append to the file too, under the file's lock.
 
-ghost use Rattle.std.specs.Prelude.{◌≡◌, ◌≤◌, ◌+◌, ◌++◌, [], false, true, IfErr, IfOk, OnErr, OnOk, Some, drop, get_or, length, option_to_list, ◌≢◌, map};
+ghost use Rattle.std.specs.Prelude.{◌≡◌, ◌≤◌, ◌+◌, ◌++◌, [], false, true, IfErr, IfOk, IfSome, OnErr, OnOk, Some, drop, get_or, length, is_some, not, option_to_list, ◌≢◌, map, IsTrue, ◌↔◌};
 ghost use Rattle.std.specs.Io.KnownBytes.{Appends};
+ghost use Rattle.plan_record.specs.Among.{AreAmong};
 ghost use Rattle.plan_record.specs.Entries.{spelling, HasSpelling};
 ghost use Rattle.plan_world.specs.StartRecorded.{all_begun, begun, begun_with, ended_by, first_named};
 ghost use Rattle.plan_world.specs.Recording.{edge_entry};
@@ -12,7 +13,7 @@ use crate::builder_lock::SharedFile;
 use crate::fault::DeviceFault;
 use plan_machine::Recorded;
 use plan_record::{Entry, append};
-use plan_text::{Counted, Items, RowList};
+use plan_text::{Counted, Items, PathFilter, RowList};
 use plan_verify::{PathList, Words};
 use std::alloc::{AllocError, Global};
 use std::fs::{Metadata, OpenFile};
@@ -32,7 +33,7 @@ pub(crate) fn bytes_of(alloc: Global, entry: &Entry) -> Result<Vec<u8>, DeviceFa
 }
 
 /// Writes all bytes by one write, so that other builders can't append anything between them.
-fn write_at_once<F: Write>(file: &mut F, bytes: &[u8]) -> Result<(), DeviceFault>
+pub(crate) fn write_at_once<F: Write>(file: &mut F, bytes: &[u8]) -> Result<(), DeviceFault>
     ensures { OnOk result (Appends (F.contents file.old) (F.contents file.new) bytes.now) }
 {
     let count = file.write(bytes)?;
@@ -309,4 +310,36 @@ pub(crate) fn ended_entry(
         Some(other) => ended_by(alloc, first, other),
         None => Ok(None),
     }
+}
+
+/// Checks whether an output was last made by the edge with this first output, as another one than that, by the last
+/// entry of the output.
+pub(crate) fn is_begun_with(first: &[u8], last: &Entry) -> Result<bool, DeviceFault>
+    ensures { IfOk result (λ is. IsTrue is ↔ (first_named last.now ≡ Some first.now)) }
+{
+    if !is_begun(last) {
+        return Ok(false);
+    }
+    let mut paths = last.paths()?;
+    paths.advance();
+    match paths.first() {
+        Some(named) => Ok(named == first),
+        None => Ok(false),
+    }
+}
+
+/// Returns those paths of an entry that may be in a set. Returns None if it is a start entry.
+pub(crate) fn entry_among(
+    alloc: Global,
+    entry: &Entry,
+    wanted: &PathFilter,
+) -> Result<Option<RowList<u8>>, DeviceFault>
+    ensures among { IfOk result (λ found. IfSome found (λ paths. AreAmong wanted.now entry.now.paths paths)) }
+    ensures begun { IfOk result (λ found. is_some found ≡ not (is_begun entry.now)) }
+{
+    if is_begun(entry) {
+        return Ok(None);
+    }
+    let found = entry.paths()?.among(alloc, wanted)?;
+    Ok(Some(found))
 }

@@ -85,3 +85,14 @@ pub(crate) fn stamp_of<R: Files>(rt: &R, path: &[u8]) -> Result<u64, DeviceFault
         Err(_) => Err(DeviceFault::System(ErrorKind::InvalidFilename)),
     }
 }
+
+/// Checks whether there is a file at a path. Folders and symbolic links aren't files.
+pub(crate) fn is_file<R: Files>(rt: &R, path: &[u8]) -> bool {
+    match str::from_utf8(path) {
+        Ok(path) => match fs::symlink_metadata(rt, path) {
+            Ok(found) => found.is_file(),
+            Err(_) => false,
+        },
+        Err(_) => false,
+    }
+}

@@ -3,6 +3,8 @@
 mod begins;
 mod commands;
 mod failing;
+mod ninja_log;
+mod recalling;
 mod record;
 
 use crate::holders::{BuilderName, builder_named, holder_in_line};

@@ -1,34 +1,36 @@
 //! The world of real files and commands.
 
-ghost use Rattle.std.specs.Prelude.{◌≡◌, ◌≤◌, ℕ, [], IfErr, IfOk, IfSome, IsUtf8, None, Ok, get_or};
+ghost use Rattle.std.specs.Prelude.{◌≡◌, ◌≤◌, ℕ, [], IfErr, IfOk, IfSome, IsUtf8, None, Ok, Some, get_or};
 ghost use Rattle.plan_machine.specs.declared.event.reply.Reply.TheVariants as reply;
 ghost use Rattle.plan_verify.specs.Turn.{Keep, Recall, Run};
 ghost use Rattle.plan_world.specs.Answers.{IsAnswer, IsByShell, MayAnswer};
-ghost use Rattle.plan_world.specs.Askable.{IsRecalled, RecallsAs};
+ghost use Rattle.plan_world.specs.Askable.{AreAskable, IsRecalled, RecallsAs};
 ghost use Rattle.plan_world.specs.Recording.{edge_entry};
 ghost use Rattle.plan_world.specs.Shells.{AreTexts};
 
-use crate::askable::are_askable;
+use crate::askable::{are_askable, are_rows_askable};
 use crate::begins::{Begins, basis_from, is_later};
 use crate::builder_lock::{BuilderLock, SharedFile, take_lock};
 use crate::depfile::read_depfile;
 use crate::ended_entries::EndedEntries;
 use crate::fault::{DeviceFault, OpenFault};
+use crate::ninja_log::NinjaLog;
 use crate::reasons::say;
 use crate::record_file::{Kept, RecordFile, StartRecorded, open_file, open_record};
-use crate::record_sink::{begun_entry, recorded_of};
+use crate::record_sink::{begun_entry, entry_among, is_begun, is_begun_with, recorded_of};
 use crate::rewriting::compact_grown;
 use crate::shell::{Shells, make_folders, run_shell};
-use crate::stamp::stat;
+use crate::stamp::{is_file, stamp_at, stat};
 use plan_lanes::{Permit, World};
 use plan_machine::{Recorded, Reply};
 use plan_record::Entry;
-use plan_text::RowList;
+use plan_text::{PathFilter, RowList};
 use plan_verify::PathList;
 use std::alloc::{AllocError, Global};
 use std::env::Env;
-use std::fs::OpenFile;
-use std::io::{Read, Seek, Write};
+use std::fs::{self, OpenFile};
+use std::io::{ErrorKind, Read, Seek, Write};
+use std::os::unix::fs::MetadataExt;
 use std::rt::Files;
 use std::sync::{Mutex, Wait};
 use std::thread::Parker;
@@ -49,6 +51,8 @@ pub struct RealWorld<R: Files, S> {
     parker: Parker,
     /// The path of the record.
     path: String,
+    /// The stamp that the record had when it was opened. None if it was missing or empty.
+    opened: Option<u64>,
     /// The record, or None before it is read.
     record: Mutex<Option<RecordFile<R::File>>>,
     /// Keeps other builders from the record.
@@ -94,7 +98,8 @@ where
         R: Clone + Drop,
         S: Drop,
     {
-        let begins = Begins::new(rt.alloc());
+        let ninja_log = NinjaLog::next_to(rt.alloc(), record)?;
+        let begins = Begins::new(rt.alloc(), ninja_log);
         RealWorld::open_with(rt, shells, record, Some(begins))
     }
 
@@ -110,18 +115,27 @@ where
         S: Drop,
     {
         let ended = EndedEntries::new(rt.alloc());
-        match open_for_building(&rt, record) {
-            Ok((path, lock, file)) => Ok(RealWorld {
-                rt,
-                shells,
-                screen: Mutex::new(()),
-                parker: Parker::new(),
-                path,
-                record: Mutex::new(file),
-                lock,
-                begins,
-                ended,
-            }),
+        match open_for_building(&rt, record, begins.is_some()) {
+            Ok(opened) => {
+                let Opened {
+                    path,
+                    lock,
+                    stamp,
+                    file,
+                } = opened;
+                Ok(RealWorld {
+                    rt,
+                    shells,
+                    screen: Mutex::new(()),
+                    parker: Parker::new(),
+                    path,
+                    opened: stamp,
+                    record: Mutex::new(file),
+                    lock,
+                    begins,
+                    ended,
+                })
+            }
             Err(fault) => {
                 say(&rt, "can't open the record", record.as_bytes(), fault);
                 Err(OpenFault::from(fault))
@@ -146,12 +160,38 @@ where
     compact_grown(rt, record, lock, file)
 }
 
-/// Takes the lock of a record, and reads the record if it is short. Also returns its path. Refuses folders, devices and
-/// pipes before it creates a lock.
+/// A record that was opened for a build.
+#[derive(Drop)]
+struct Opened<F> {
+    path: String,
+    lock: BuilderLock<F>,
+    /// The stamp that the record had before this builder changed it. None if it was missing or empty.
+    stamp: Option<u64>,
+    /// The record, or None if it is long and wasn't read.
+    file: Option<RecordFile<F>>,
+}
+
+/// Returns the stamp of the record at a path. Returns None if it is missing or empty. The caller must have taken its
+/// lock, since a builder that holds the lock writes the record and replaces its file.
+fn written_stamp<R: Files>(rt: &R, record: &str) -> Result<Option<u64>, DeviceFault> {
+    match fs::metadata(rt, record) {
+        Ok(found) if found.len() > 0 => Ok(Some(stamp_at(found.mtime(), found.mtime_nsec()))),
+        Ok(_) => Ok(None),
+        Err(error) => match error.kind() {
+            ErrorKind::NotFound => Ok(None),
+            _ => Err(DeviceFault::from(error)),
+        },
+    }
+}
+
+/// Takes the lock of a record, looks at the record's stamp if it is asked for, and reads the record if it is short.
+/// Refuses folders, devices and pipes before it creates a lock. A nested builder doesn't look at the stamp, since the
+/// builder above it writes the record meanwhile.
 fn open_for_building<R: Files + Env + Clock + Eprint + AllocGlobal + Clone + Drop>(
     rt: &R,
     record: &str,
-) -> Result<(String, BuilderLock<R::File>, Option<RecordFile<R::File>>), DeviceFault>
+    wants_stamp: bool,
+) -> Result<Opened<R::File>, DeviceFault>
 where
     R::File: Read + Write + Seek + OpenFile + SharedFile + Drop,
 {
@@ -160,11 +200,20 @@ where
     let is_long = found.metadata()?.len() >= LONG;
     drop(found);
     let lock = take_lock(rt, record)?;
-    if is_long {
-        return Ok((path, lock, None));
+    let mut stamp = None;
+    if wants_stamp && lock.is_held() {
+        stamp = written_stamp(rt, record)?;
     }
-    let file = open_locked(rt, record, &lock)?;
-    Ok((path, lock, Some(file)))
+    let mut file = None;
+    if !is_long {
+        file = Some(open_locked(rt, record, &lock)?);
+    }
+    Ok(Opened {
+        path,
+        lock,
+        stamp,
+        file,
+    })
 }
 
 impl<R: Files + Wait + Eprint + AllocGlobal, S> RealWorld<R, S>
@@ -316,9 +365,25 @@ where
     ) -> Result<StartRecorded<'a>, DeviceFault>
         ensures { IfOk result (λ b. b ≡ get_or outputs.now 0 []) }
     {
+        self.end_in_record(record)?;
         let begun = record.begin_all(self.rt.alloc(), outputs)?;
         begins.add(&self.rt, outputs.row(0), record.stamp()?)?;
+        begins.ninja_log().begin(&self.rt, outputs)?;
         Ok(begun)
+    }
+
+    /// Appends start entries for the outputs whose entries were ended for this build. When the record is written, its
+    /// stamp no longer shows which outputs were changed before. So the next build wouldn't end those entries again that
+    /// this one doesn't want, or doesn't reach.
+    fn end_in_record(&self, record: &mut RecordFile<R::File>) -> Result<(), DeviceFault> {
+        let outputs = self.ended.take_unwritten(&self.rt);
+        match begin_each(self.rt.alloc(), record, &outputs) {
+            Ok(()) => Ok(()),
+            Err(fault) => {
+                self.ended.give_back(&self.rt, outputs);
+                Err(fault)
+            }
+        }
     }
 
     /// Returns when the command of an edge began, if this is a world of the stricter rule. Can be asked once.
@@ -352,8 +417,15 @@ where
         )
     }
 
+    /// Marks the outputs of an edge whose entry was just kept as made in ninja's log, if its command ran in this build.
+    fn end_for_ninja(&self, output: &[u8], command: &[u8], begin: Option<u64>) {
+        if let (Some(begins), Some(begin)) = (&self.begins, begin) {
+            begins.ninja_log().end(&self.rt, output, command, begin);
+        }
+    }
+
     /// Returns the stamp of the record, which was just written. Returns None if it can't be determined.
-    fn record_stamp(&self) -> Option<u64> {
+    fn stamp_now(&self) -> Option<u64> {
         let mut record = self.record.lock(&self.rt);
         match self.read_in(&mut record) {
             Ok(record) => record.stamp().ok(),
@@ -370,7 +442,7 @@ where
         if !is_later(basis, begin) {
             return;
         }
-        match self.record_stamp() {
+        match self.stamp_now() {
             Some(now) if is_later(basis, now) => begins.warn(&self.rt, edge, paths, now),
             _ => {}
         }
@@ -384,9 +456,86 @@ where
         if self.ended.has(&self.rt, output) {
             return Ok(Some(begun_entry(self.rt.alloc(), output)?));
         }
+        self.last_recorded(output)
+    }
+
+    /// Returns the last entry that the record has for an output, if there is one, whether or not it was ended for this
+    /// build.
+    fn last_recorded(&self, output: &[u8]) -> Result<Option<Entry>, DeviceFault>
+        ensures { IfOk result (λ found. IfSome found (λ e. e.output ≡ output.now)) }
+    {
         let mut record = self.record.lock(&self.rt);
         let record = self.read_in(&mut record)?;
         record.last(self.rt.alloc(), output)
+    }
+
+    /// Returns those paths of the last entry of an output that may be in a set, whether or not the entry was ended for
+    /// this build. Returns None if there is no entry, or if it is a start entry or spoilt.
+    fn last_among(
+        &self,
+        alloc: Global,
+        output: &[u8],
+        wanted: &PathFilter,
+    ) -> Result<Option<RowList<u8>>, DeviceFault>
+        ensures { IfOk result (λ found. IfSome found (λ paths. AreAskable paths)) }
+    {
+        match self.last_recorded(output)? {
+            Some(entry) => askable_among(alloc, &entry, wanted),
+            None => Ok(None),
+        }
+    }
+
+    /// Checks whether the last entry of an output is a start entry.
+    fn is_last_begun(&self, output: &[u8]) -> Result<bool, DeviceFault> {
+        match self.last_recorded(output)? {
+            Some(last) => Ok(is_begun(&last)),
+            None => Ok(false),
+        }
+    }
+
+    /// Checks whether the last entry of an output is a start entry that names the edge with this first output.
+    fn is_last_begun_with(&self, output: &[u8], first: &[u8]) -> Result<bool, DeviceFault> {
+        match self.last_recorded(output)? {
+            Some(last) => is_begun_with(first, &last),
+            None => Ok(false),
+        }
+    }
+}
+
+/// Appends a start entry for each of these outputs, each by itself.
+fn begin_each<F: Read + Write + Seek + OpenFile + SharedFile>(
+    alloc: Global,
+    record: &mut RecordFile<F>,
+    outputs: &RowList<u8>,
+) -> Result<(), DeviceFault> {
+    for number in 0..outputs.len() {
+        record.begin(alloc, outputs.row(number))?;
+    }
+    Ok(())
+}
+
+/// Returns these paths. Returns None if the system can't be asked about one of them: then their entry is spoilt.
+fn if_askable(paths: RowList<u8>) -> Option<RowList<u8>>
+    ensures askable { IfSome result (λ all. AreAskable all) }
+    ensures paths { AreAskable paths → result ≡ Some paths }
+{
+    if are_rows_askable(&paths) {
+        return Some(paths);
+    }
+    None
+}
+
+/// Returns those paths of an entry that may be in a set. Returns None if it is a start entry or spoilt.
+fn askable_among(
+    alloc: Global,
+    entry: &Entry,
+    wanted: &PathFilter,
+) -> Result<Option<RowList<u8>>, DeviceFault>
+    ensures { IfOk result (λ found. IfSome found (λ paths. AreAskable paths)) }
+{
+    match entry_among(alloc, entry, wanted)? {
+        Some(paths) => Ok(if_askable(paths)),
+        None => Ok(None),
     }
 }
 
@@ -475,12 +624,64 @@ where
         }
     }
 
-    fn forget(&self, output: &[u8]) -> Result<(), AllocError> {
-        self.ended.add(&self.rt, output)
+    fn recorded_among(
+        &self,
+        alloc: Global,
+        output: &[u8],
+        wanted: &PathFilter,
+    ) -> Result<Option<RowList<u8>>, AllocError> {
+        match self.last_among(alloc, output, wanted) {
+            Ok(found) => Ok(found),
+            Err(DeviceFault::Memory) => Err(AllocError),
+            Err(_) => Ok(None),
+        }
+    }
+
+    fn record_stamp(&self) -> Option<u64> {
+        self.opened
+    }
+
+    fn first_begin(&self) -> Option<u64> {
+        match &self.begins {
+            Some(begins) => begins.first(),
+            None => None,
+        }
+    }
+
+    fn is_file(&self, path: &[u8]) -> bool {
+        is_file(&self.rt, path)
+    }
+
+    /// Says yes by the specified rule, by which only the first output of an edge has entries, and if the record can't
+    /// be read. The record says by the entry of the first output itself whether it ended.
+    fn is_made_with(&self, output: &[u8], first: &[u8]) -> Result<bool, AllocError> {
+        if self.begins.is_none() || output == first {
+            return Ok(true);
+        }
+        match self.is_last_begun_with(output, first) {
+            Ok(is_made) => Ok(is_made),
+            Err(DeviceFault::Memory) => Err(AllocError),
+            Err(_) => Ok(true),
+        }
+    }
+
+    /// Leaves a start entry as it is, since its edge runs anyway.
+    fn forget(&self, output: &[u8], reason: &[u8]) -> Result<(), AllocError> {
+        match self.is_last_begun(output) {
+            Ok(true) => Ok(()),
+            Ok(false) => self.ended.add(&self.rt, output, reason),
+            Err(DeviceFault::Memory) => Err(AllocError),
+            Err(_) => Ok(()),
+        }
     }
 
     fn explain(&self, edge: &[u8], reason: &[u8]) {
-        self.shells.explain(edge, reason);
+        let ended = self.ended.reason(&self.rt, edge);
+        if ended.is_empty() {
+            self.shells.explain(edge, reason);
+        } else {
+            self.shells.explain(edge, &ended);
+        }
     }
 
     fn run(
@@ -510,6 +711,7 @@ where
         let begin = self.begin_of(output);
         match self.append(output, command, basis, begin, paths) {
             Ok(kept) => {
+                self.end_for_ninja(output, command, begin);
                 self.warn_of_future(output, basis, begin, paths);
                 Ok(keep_reply(kept, output, command, basis, paths))
             }

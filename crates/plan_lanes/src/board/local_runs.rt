@@ -46,8 +46,8 @@ impl<'v, W: World> Board<'v, W> {
         Ok(local_run)
     }
 
-    /// Applies a reply, then makes steps as `record_local_run` does, and appends all that to the journal, and the mark of
-    /// the reply if it reports something. If the reply is refused, nothing changes.
+    /// Applies a reply, then makes steps as `record_local_run` does, and appends all that to the journal, and the mark
+    /// of the reply if it reports something. If the reply is refused, nothing changes.
     fn record_reply(&mut self, edge: u32, reply: Reply) -> Result<LocalRun, Refused>
         requires { MayJournal W.allows self.old (Hear edge reply) }
         ensures ok { IfOk result (λ r. Follows self.old self.new edge reply r) }
@@ -221,8 +221,8 @@ impl<'v, W: World> Board<'v, W> {
         }
     }
 
-    /// Replaces a question of an edge by the one whose reply the edge awaits. The new question uses the bytes of the old
-    /// one. If memory runs out, the old question is lost.
+    /// Replaces a question of an edge by the one whose reply the edge awaits. The new question uses the bytes of the
+    /// old one. If memory runs out, the old question is lost.
     pub(crate) fn ask_again(&self, edge: u32, question: &mut Question) -> Result<(), AllocError>
         requires { AwaitsReply self.now edge }
         ensures { OnOk result (IsOpen self.now edge question.new.number (shown question.new.request)) }

@@ -51,8 +51,8 @@ impl State {
     }
 
     /// Returns the start of an edge, if no edge can make a step but those that are about to take a job token, and the
-    /// failure limit hasn't been reached. So edges can start before another one runs its command. It takes no memory and
-    /// constant time.
+    /// failure limit hasn't been reached. So edges can start before another one runs its command. It takes no memory
+    /// and constant time.
     pub fn pick_start(&self, image: &Verified) -> Option<Event>
         requires { IsStateOf image.now self.now }
         ensures enabled { IfSome result (λ event. IsEnabled image.now self.now.run_state event) }

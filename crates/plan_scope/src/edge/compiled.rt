@@ -68,7 +68,8 @@ pub enum CompiledRule<'a> {
     Met,
     /// The parts of its variables, for the edges whose blocks bind no variable of the rule.
     Whole(RuleParts<'a>),
-    /// The rule isn't compiled: a variable has a cycle, too many parts, or too many nested variables, or memory ran out.
+    /// The rule isn't compiled: a variable has a cycle, too many parts, or too many nested variables, or memory ran
+    /// out.
     Unknown,
 }
 

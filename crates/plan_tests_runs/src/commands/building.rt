@@ -1,6 +1,6 @@
 //! Builds of manifests in memory. In most worlds here, the edge that builds the manifest is out of date `rounds` times.
 
-use crate::commands::fakes::{Failing, Generator, Listening, Touched, Versions};
+use crate::commands::fakes::{Failing, Generator, Listening, Reads, Touched, Versions};
 use plan_commands::{Done, Listed, Order, Printer, do_build, do_dry_build};
 use plan_lanes::World;
 use plan_machine::Options;
@@ -34,6 +34,14 @@ const IDLE: &[u8] =
 /// A manifest with two commands that have `restat`, and one that doesn't.
 const WITH_RESTAT: &[u8] =
     b"rule cc\n  command = cc $in -o $out\nrule gen\n  command = gen $out\n  restat = 1\nbuild a: gen in\nbuild b: cc a\nbuild c: gen b\n";
+
+/// A manifest in which an edge makes `h`, which no other build line names, and `out` has a depfile.
+const WITH_HEADER: &[u8] =
+    b"rule cc\n  command = cc $in -o $out\n  depfile = d\nrule gen\n  command = gen $out\nbuild out: cc in\nbuild h: gen\n";
+
+/// The same, but `h` is made of `out`.
+const WITH_CYCLE: &[u8] =
+    b"rule cc\n  command = cc $in -o $out\n  depfile = d\nrule gen\n  command = gen $out\nbuild out: cc in\nbuild h: gen out\n";
 
 /// Builds targets of a manifest that changes between its reads, and writes the lines to a sink.
 fn build_to<
@@ -85,8 +93,8 @@ fn built<'x, R: Threads + Wait + Sync + AllocGlobal, W: World + Send + Sync>(
     Ok((out.into_writer(), line_of(rt.alloc(), done)?))
 }
 
-/// Builds the default targets of a manifest without running a command. Returns the numbers of commands that were listed,
-/// too.
+/// Builds the default targets of a manifest without running a command. Returns the numbers of commands that were
+/// listed, too.
 fn previewed<'x, R: Threads + Wait + Sync + AllocGlobal>(
     rt: &R,
     texts: &'x [&'x [u8]],
@@ -216,6 +224,40 @@ fn nothing_to_do_is_up_to_date(rt: HostRuntime) -> Result<(), Fail> {
     assert!(rt; text.is_empty());
     assert!(rt; matches!(&done, Ok(Done::UpToDate)));
     assert!(rt; world.commands() == 0);
+    Ok(())
+}
+
+/// Checks that an edge waits for the edge that makes a path which its last command read, by its entry or its depfile.
+#[test]
+fn recorded_path_is_waited_for(rt: HostRuntime) -> Result<(), Fail> {
+    for is_recorded in [true, false] {
+        let world = Reads {
+            alloc: rt.alloc(),
+            is_recorded,
+        };
+        let (text, done) = built(&rt, &[WITH_HEADER], &[b"out"], &world)?;
+        assert_eq!(rt;
+            text.as_slice(),
+            b"[1/2] gen h\n[2/2] cc in -o out\n".as_slice()
+        );
+        assert!(rt; matches!(&done, Ok(Done::Built)));
+    }
+    Ok(())
+}
+
+/// Checks that a recorded path is left out if its maker waits for the edge.
+#[test]
+fn recorded_cycle_is_left_out(rt: HostRuntime) -> Result<(), Fail> {
+    let world = Reads {
+        alloc: rt.alloc(),
+        is_recorded: true,
+    };
+    let (text, done) = built(&rt, &[WITH_CYCLE], &[b"h"], &world)?;
+    assert_eq!(rt;
+        text.as_slice(),
+        b"[1/2] cc in -o out\n[2/2] gen h\n".as_slice()
+    );
+    assert!(rt; matches!(&done, Ok(Done::Built)));
     Ok(())
 }
 

@@ -1,7 +1,8 @@
 //! Sources, sinks and worlds written for tests.
 
+use plan_depfile::Parsed;
 use plan_lanes::{Permit, World};
-use plan_machine::{Recorded, Reply};
+use plan_machine::{Depfile, Recorded, Reply};
 use plan_scope::{Source, SourceFault};
 use plan_text::{GhostCounter, RowList, Sink, SinkFault};
 use plan_verify::{PathList, Words};
@@ -310,6 +311,81 @@ impl World for Touched {
 
     fn read_depfile(&self, _number: u64, _path: &[u8]) -> Result<Reply, AllocError> {
         Ok(Reply::Nothing)
+    }
+
+    fn keep(
+        &self,
+        _number: u64,
+        _output: &[u8],
+        _command: &[u8],
+        _basis: u64,
+        _paths: &PathList,
+    ) -> Result<Reply, AllocError> {
+        Ok(Reply::Kept)
+    }
+}
+
+/// A world in which no output exists, and the command of `out` read `h` when it ran last, by its entry or, if it has
+/// none, by its depfile. Commands succeed.
+#[derive(Drop)]
+pub struct Reads {
+    pub alloc: Global,
+    pub is_recorded: bool,
+}
+
+impl Reads {
+    /// Returns the paths that the command of `out` read.
+    fn paths(&self) -> Result<PathList, AllocError> {
+        let mut rows = RowList::new(self.alloc);
+        rows.push(b"in")?;
+        rows.push(b"h")?;
+        PathList::new(self.alloc, rows)
+    }
+}
+
+impl World for Reads {
+    ghost use Rattle.std.specs.Prelude.{⊤};
+
+    ghost allows = { λ number request reply. ⊤ };
+
+    fn keeps_journal() -> bool {
+        false
+    }
+
+    fn observes() -> bool {
+        false
+    }
+
+    fn stat(&self, _number: u64, path: &[u8]) -> Result<Reply, AllocError> {
+        Ok(Reply::Stamp(if path == b"in".as_slice() { 7 } else { 0 }))
+    }
+
+    fn recall(&self, _number: u64, output: &[u8]) -> Result<Reply, AllocError> {
+        if !self.is_recorded || output != b"out".as_slice() {
+            return Ok(Reply::Nothing);
+        }
+        let command = Words::of(self.alloc, b"cc in -o out".as_slice())?;
+        let recorded = Recorded::new(self.alloc, command, 7, self.paths()?)?;
+        Ok(Reply::Entry(recorded))
+    }
+
+    fn run(
+        &self,
+        _number: u64,
+        _command: &[u8],
+        _outputs: &RowList<u8>,
+        permit: Permit,
+    ) -> Result<Reply, AllocError> {
+        permit.spend();
+        Ok(Reply::Exit(0))
+    }
+
+    fn read_depfile(&self, _number: u64, _path: &[u8]) -> Result<Reply, AllocError> {
+        let bytes = Vec::from_slice(self.alloc, b"out: in h\n")?;
+        match Parsed::of(self.alloc, bytes) {
+            Ok(parsed) => Ok(Reply::Bytes(Depfile::new(self.alloc, parsed)?)),
+            Err(_) => Err(AllocError),
+        }
     }
 
     fn keep(

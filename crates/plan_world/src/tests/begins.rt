@@ -8,7 +8,7 @@ const BEGUN_SECOND: [u8; 44] =
     *b"\0\0\0\x28\0\x01b\0\0\0\x01\0\0\0\0\0\0\0\0\0\0\0\0\x02\0\x0f/dev/null/begun\0\x01a";
 
 /// Opens a world of the stricter rule with its record in a folder.
-fn stricter_world_in(
+pub(crate) fn stricter_world_in(
     rt: &HostRuntime,
     folder: &str,
 ) -> Result<RealWorld<HostRuntime, SystemShells<HostRuntime>>, Fail> {
@@ -57,7 +57,7 @@ fn first_output_begins(rt: HostRuntime) -> Result<(), Fail> {
 }
 
 /// Starts a command for these files and keeps an entry of this output.
-fn makes<R: Files + Print + Eprint + Wait + AllocGlobal, S: Shells>(
+pub(crate) fn makes<R: Files + Print + Eprint + Wait + AllocGlobal, S: Shells>(
     rt: &impl Abort,
     alloc: Global,
     world: &RealWorld<R, S>,
@@ -168,7 +168,7 @@ where
 {
     keep_is(rt, alloc, world, b"a", &PathList::empty(alloc)?, "kept")?;
     keep_is(rt, alloc, world, b"b", &PathList::empty(alloc)?, "kept")?;
-    world.forget(b"a")?;
+    world.forget(b"a", b"")?;
     assert!(rt; has_start_entry(world, b"a")?);
     assert!(rt; !has_start_entry(world, b"b")?);
     makes(rt, alloc, world, &[b"a"], b"a")?;
@@ -182,10 +182,27 @@ fn forgotten_entry(rt: HostRuntime) -> Result<(), Fail> {
     let folder = folder(&rt, "forgotten_entry")?;
     let world = stricter_world_in(&rt, folder.as_str())?;
     is_forgotten(&rt, rt.alloc(), &world)?;
-    world.forget(b"b")?;
+    world.forget(b"b", b"")?;
     drop(world);
     let world = world_in(&rt, folder.as_str())?;
     assert!(rt; !has_start_entry(&world, b"b")?);
+    drop(world);
+    remove(&rt, folder);
+    Ok(())
+}
+
+/// Checks that an entry that was ended for a build has ended for good once another command has begun.
+#[test]
+fn forgotten_entry_of_a_later_build(rt: HostRuntime) -> Result<(), Fail> {
+    let folder = folder(&rt, "forgotten_later")?;
+    let world = stricter_world_in(&rt, folder.as_str())?;
+    is_forgotten(&rt, rt.alloc(), &world)?;
+    world.forget(b"b", b"")?;
+    makes(&rt, rt.alloc(), &world, &[b"a"], b"a")?;
+    drop(world);
+    let world = world_in(&rt, folder.as_str())?;
+    assert!(rt; has_start_entry(&world, b"b")?);
+    assert!(rt; !has_start_entry(&world, b"a")?);
     drop(world);
     remove(&rt, folder);
     Ok(())

@@ -1,0 +1,353 @@
+//! What the record adds to a manifest: edges wait for the makers of the paths that their entries name.
+
+ghost use Rattle.std.specs.Prelude.{◌≡◌, ◌⊎◌, ◌<◌, ◌≤◌, ◌++◌, ◌∷◌, [], ℕ, All, IfOk, OnOk, false, flat_map, length, take, true};
+ghost use Rattle.plan_graph.specs.Graph.{IsGraph, max_edges, outputs_of};
+ghost use Rattle.plan_depfile.specs.Depfile.{depfile_of};
+ghost use Rattle.plan_lanes.specs.Recalled.{AreAmong};
+ghost use Rattle.plan_commands.specs.Recorded.{AreRecalled, AreRecorded, AreSome, DependsOn, IsMadeIn, IsNeeded, IsRecalled, IsWaitOf, MayLeaveIn, NamesAmong, name_of, ok_or_none, own_paths, paths_for};
+
+use plan_graph::{Graph, Wait, cycle_with};
+use plan_lanes::{World, paths_among};
+use plan_machine::{Depfile, Reply};
+use plan_scope::{Addition, EdgeList, EdgeRef, Manifest, PathRange};
+use plan_text::{PathFilter, RowList};
+use std::alloc::{AllocError, Global};
+
+/// Adds paths to a filter.
+fn add_paths<'a>(filter: &mut PathFilter, paths: &PathRange<'a>)
+    ensures { filter.new ≡ filter.old ++ paths.now }
+{
+    for place in 0..paths.len() {
+        filter.add(paths.path(place));
+    }
+}
+
+/// Returns the filter of all outputs.
+fn filter_of(alloc: Global, edges: &EdgeList) -> Result<PathFilter, AllocError>
+    ensures { IfOk result (λ filter. filter ≡ flat_map outputs_of edges.now) }
+{
+    let mut filter = PathFilter::new(alloc, edges.len())?;
+    for number in 0..edges.len() {
+        let edge = edges.edge(number);
+        add_paths(&mut filter, &edge.outputs());
+        add_paths(&mut filter, &edge.implicit_outputs());
+    }
+    Ok(filter)
+}
+
+/// Returns the first output of an edge.
+pub(crate) fn first_output<'a>(edge: &EdgeRef<'a>) -> &'a [u8]
+    ensures { result.now ≡ name_of edge.now }
+{
+    let outputs = edge.outputs();
+    if outputs.len() > 0 {
+        return outputs.path(0);
+    }
+    edge.implicit_outputs().path(0)
+}
+
+/// Returns the paths that a depfile names and that may be outputs. Returns none if it is refused.
+fn named_among(
+    alloc: Global,
+    depfile: &Depfile,
+    filter: &PathFilter,
+) -> Result<RowList<u8>, AllocError>
+    ensures { IfOk result (λ found. AreAmong filter.now (ok_or_none (depfile_of depfile.now)) found) }
+{
+    match depfile.result(alloc)? {
+        Ok(paths) => paths_among(alloc, &paths, filter),
+        Err(_) => Ok(RowList::new(alloc)),
+    }
+}
+
+/// Returns the paths that the depfile of an edge names and that may be outputs.
+fn depfile_paths<'a, W: World>(
+    alloc: Global,
+    world: &W,
+    filter: &PathFilter,
+    edge: &EdgeRef<'a>,
+) -> Result<RowList<u8>, AllocError>
+    ensures { IfOk result (λ found. NamesAmong W.allows filter.now edge.now found) }
+{
+    let path = edge.depfile().join(alloc)?;
+    match world.read_depfile(0, path.as_slice())? {
+        Reply::Bytes(depfile) => named_among(alloc, &depfile, filter),
+        _ => Ok(RowList::new(alloc)),
+    }
+}
+
+/// Returns the paths that the last command of an edge read and that may be outputs: by its entry, or by its depfile if
+/// there is no entry of a command that ended. Returns none for an edge without a depfile.
+fn recorded_paths<'a, W: World>(
+    alloc: Global,
+    world: &W,
+    filter: &PathFilter,
+    edge: &EdgeRef<'a>,
+) -> Result<RowList<u8>, AllocError>
+    ensures { IfOk result (λ paths. ((edge.now.depfile ≡ []) × (paths ≡ [])) ⊎ NamesAmong W.allows filter.now edge.now paths) }
+{
+    if edge.depfile().is_empty() {
+        return Ok(RowList::new(alloc));
+    }
+    match world.recorded_among(alloc, first_output(edge), filter)? {
+        Some(paths) => Ok(paths),
+        None => depfile_paths(alloc, world, filter, edge),
+    }
+}
+
+/// Appends an addition of order-only inputs to an edge, if there are any.
+fn push_order_only(
+    alloc: Global,
+    edge: u32,
+    paths: RowList<u8>,
+    additions: &mut Vec<Addition>,
+) -> Result<(), AllocError>
+    ensures paths { OnOk result ((e : ℕ) → paths_for e additions.new.items ≡ paths_for e additions.old.items ++ own_paths e (record { edge = edge; outputs = []; inputs = []; order_only = paths })) }
+    ensures added { OnOk result ((additions.new.items ≡ additions.old.items) ⊎ (additions.new.items ≡ additions.old.items ++ record { edge = edge; outputs = []; inputs = []; order_only = paths } ∷ [])) }
+{
+    if paths.len() == 0 {
+        return Ok(());
+    }
+    let (outputs, inputs) = (RowList::new(alloc), RowList::new(alloc));
+    additions.push(Addition {
+        edge,
+        outputs,
+        inputs,
+        order_only: paths,
+    })?;
+    Ok(())
+}
+
+/// Returns the recorded paths of all edges that may be outputs, as order-only inputs.
+pub(crate) fn recalled_paths<W: World>(
+    alloc: Global,
+    world: &W,
+    edges: &EdgeList,
+) -> Result<Vec<Addition>, AllocError>
+    requires { length edges.now ≤ max_edges }
+    ensures { IfOk result (λ additions. AreRecalled W.allows edges.now additions.items) }
+{
+    let filter = filter_of(alloc, edges)?;
+    let mut additions = Vec::new(alloc);
+    for number in 0..edges.len() {
+        let edge = edges.edge(number);
+        let paths = recorded_paths(alloc, world, &filter, &edge)?;
+        push_order_only(alloc, number as u32, paths, &mut additions)?;
+    }
+    Ok(additions)
+}
+
+/// The largest number of edges that a search looks at.
+const MOST_MET: usize = 64;
+
+/// Appends edges to those that a search has met, as long as these are few.
+fn push_met(row: &[u32], met: &mut Vec<u32>) -> Result<(), AllocError>
+    ensures { OnOk result ((count : ℕ) × (met.new.items ≡ met.old.items ++ take count row.now)) }
+{
+    let room = MOST_MET.saturating_sub(met.len());
+    let (some, _) = row.split_at(room.min(row.len()));
+    met.extend_from_slice(some)?;
+    Ok(())
+}
+
+/// Checks whether an edge depends on another one, directly or through edges that a short search meets. So it may return
+/// false for an edge that depends on the other one through many edges.
+fn depends_on(
+    waits: &RowList<u32>,
+    edge: u32,
+    maker: u32,
+    met: &mut Vec<u32>,
+) -> Result<bool, AllocError>
+    ensures { IfOk result (λ depends. depends ≡ true → DependsOn waits.now edge maker) }
+{
+    met.clear();
+    met.push(edge)?;
+    for place in 0..MOST_MET {
+        if place >= met.len() {
+            return Ok(false);
+        }
+        let row = waits.row(met[place] as usize);
+        if row.contains(&maker) {
+            return Ok(true);
+        }
+        push_met(row, met)?;
+    }
+    Ok(false)
+}
+
+/// Checks whether an edge needs a recorded path as an input. It doesn't need one that no other edge makes, one whose
+/// maker it depends on, or one whose maker is on this cycle with it.
+fn is_needed<'a>(
+    graph: &Graph<'a>,
+    cycle: &[usize],
+    edge: u32,
+    path: &[u8],
+    met: &mut Vec<u32>,
+) -> Result<bool, AllocError>
+    ensures made { IfOk result (λ needs. needs ≡ true → IsMadeIn graph.now edge path.now) }
+    ensures left { IfOk result (λ needs. needs ≡ false → MayLeaveIn graph.now cycle.now edge path.now) }
+{
+    let maker = match graph.files.producer(path) {
+        Some(maker) => maker,
+        None => return Ok(false),
+    };
+    if maker == edge {
+        return Ok(false);
+    }
+    if cycle.contains(&(edge as usize)) & cycle.contains(&(maker as usize)) {
+        return Ok(false);
+    }
+    let depends = depends_on(&graph.waits, edge, maker, met)?;
+    Ok(!depends)
+}
+
+/// Returns those recorded paths of an edge that it needs.
+fn needed_paths<'a>(
+    alloc: Global,
+    graph: &Graph<'a>,
+    cycle: &[usize],
+    addition: &Addition,
+    met: &mut Vec<u32>,
+) -> Result<RowList<u8>, AllocError>
+    ensures some { IfOk result (λ kept. AreSome (MayLeaveIn graph.now cycle.now addition.now.edge) addition.now.order_only kept) }
+    ensures made { IfOk result (λ kept. All (IsMadeIn graph.now addition.now.edge) kept) }
+{
+    let mut kept = RowList::new(alloc);
+    for number in 0..addition.order_only.len() {
+        let path = addition.order_only.row(number);
+        if is_needed(graph, cycle, addition.edge, path, met)? {
+            kept.push(path)?;
+        }
+    }
+    Ok(kept)
+}
+
+/// Returns those additions that edges need.
+fn needed<'a>(
+    alloc: Global,
+    graph: &Graph<'a>,
+    cycle: &[usize],
+    additions: &[Addition],
+) -> Result<Vec<Addition>, AllocError>
+    ensures some { IfOk result (λ kept. (e : ℕ) → AreSome (MayLeaveIn graph.now cycle.now e) (paths_for e additions.now) (paths_for e kept.items)) }
+    ensures only { IfOk result (λ kept. (n : ℕ) → All (IsRecalled n) additions.now → All (IsNeeded graph.now n) kept.items) }
+{
+    let mut met = Vec::new(alloc);
+    let mut kept = Vec::new(alloc);
+    for number in 0..additions.len() {
+        let addition = &additions[number];
+        let paths = needed_paths(alloc, graph, cycle, addition, &mut met)?;
+        push_order_only(alloc, addition.edge, paths, &mut kept)?;
+    }
+    Ok(kept)
+}
+
+/// Appends the waits for the makers of the paths in one of these additions.
+fn push_waits<'a>(
+    graph: &Graph<'a>,
+    additions: &[Addition],
+    number: usize,
+    waits: &mut Vec<Wait>,
+) -> Result<(), AllocError>
+    requires here { number < length additions.now }
+    requires waits { All (IsWaitOf graph.now additions.now) waits.old.items }
+    ensures { All (IsWaitOf graph.now additions.now) waits.new.items }
+{
+    let addition = &additions[number];
+    for place in 0..addition.order_only.len() {
+        match graph.files.producer(addition.order_only.row(place)) {
+            Some(maker) => waits.push(Wait {
+                edge: addition.edge,
+                maker,
+            })?,
+            None => {}
+        }
+    }
+    Ok(())
+}
+
+/// Returns the waits of edges for the makers of the paths that they gain.
+fn waits_of<'a>(
+    alloc: Global,
+    graph: &Graph<'a>,
+    additions: &[Addition],
+) -> Result<Vec<Wait>, AllocError>
+    ensures { IfOk result (λ waits. All (IsWaitOf graph.now additions.now) waits.items) }
+{
+    let mut waits = Vec::new(alloc);
+    for number in 0..additions.len() {
+        push_waits(graph, additions, number, &mut waits)?;
+    }
+    Ok(waits)
+}
+
+/// The reason why an edge on a cycle runs, in words.
+const ON_CYCLE: &[u8] = b"what its last build read depends on it";
+
+/// Ends the entries of the edges on a cycle that gain inputs, so that their commands run.
+fn run_cycle<W: World>(
+    world: &W,
+    edges: &EdgeList,
+    cycle: &[usize],
+    additions: &[Addition],
+) -> Result<(), AllocError> {
+    for addition in additions {
+        let number = addition.edge as usize;
+        if (number < edges.len()) & cycle.contains(&number) {
+            world.forget(first_output(&edges.edge(number)), ON_CYCLE)?;
+        }
+    }
+    Ok(())
+}
+
+/// Returns the number of all paths in some additions.
+fn count_paths(additions: &[Addition]) -> usize {
+    let mut count = 0usize;
+    for addition in additions {
+        count = count.saturating_add(addition.order_only.len());
+    }
+    count
+}
+
+/// Leaves out the paths whose makers are on a cycle of waits with the edges that would gain them, and lets these edges
+/// run. Each turn leaves out at least one path.
+fn without_cycles<'a, W: World>(
+    alloc: Global,
+    world: &W,
+    manifest: &Manifest,
+    graph: &Graph<'a>,
+    additions: Vec<Addition>,
+) -> Result<Vec<Addition>, AllocError>
+    requires graph { IsGraph manifest.now graph.now }
+    requires recorded { AreRecorded W.allows manifest.now additions.items }
+    ensures { IfOk result (λ left. AreRecorded W.allows manifest.now left.items) }
+{
+    let mut left = additions;
+    for _ in 0..count_paths(&left) {
+        let waits = waits_of(alloc, graph, &left)?;
+        match cycle_with(alloc, graph, &waits)? {
+            Some(cycle) => {
+                run_cycle(world, &manifest.edges, cycle.as_slice(), &left)?;
+                left = needed(alloc, graph, cycle.as_slice(), &left)?;
+            }
+            None => return Ok(left),
+        }
+    }
+    Ok(left)
+}
+
+/// Returns what the record adds to a manifest, by the recorded paths of its edges.
+pub(crate) fn needed_inputs<'a, W: World>(
+    alloc: Global,
+    world: &W,
+    manifest: &Manifest,
+    graph: &Graph<'a>,
+    recalled: &[Addition],
+) -> Result<Vec<Addition>, AllocError>
+    requires graph { IsGraph manifest.now graph.now }
+    requires recalled { AreRecalled W.allows manifest.now.edges recalled.now }
+    ensures { IfOk result (λ additions. AreRecorded W.allows manifest.now additions.items) }
+{
+    let additions = needed(alloc, graph, &[], recalled)?;
+    without_cycles(alloc, world, manifest, graph, additions)
+}

@@ -1,0 +1,266 @@
+//! Compiles a manifest with what the record adds to it.
+
+ghost use Rattle.std.specs.Prelude.{◌≡◌, ◌≤◌, ◌⊎◌, IfErr, IfOk, length};
+ghost use Rattle.std.specs.Thread.{IsSend, IsSync};
+ghost use Rattle.plan_scope.specs.Extended.{AreSoundFor, extended};
+ghost use Rattle.plan_scope.specs.Sound.{IsSound};
+ghost use Rattle.plan_graph.specs.Graph.{IsGraph, max_edges};
+ghost use Rattle.plan_compile.specs.Collected.{AreNames};
+ghost use Rattle.plan_compile.specs.declared.baseline.OutOfDateRule.TheVariants as OutOfDateRule;
+ghost use Rattle.plan_commands.specs.Building.{IsCompiled, IsImageRecorded, LacksRecorded};
+ghost use Rattle.plan_commands.specs.Commands.{LacksGraph};
+ghost use Rattle.plan_commands.specs.Compiling.{IsImageOf, LacksImageOf};
+ghost use Rattle.plan_commands.specs.Recorded.{AreRecalled, AreRecorded};
+ghost use Rattle.plan_printing.specs.Faults as faults;
+
+use crate::compiling::{FEW_EDGES, graph_and_names, graph_of, image_by, image_with};
+use crate::foreign::check_entries;
+use crate::recorded::{needed_inputs, recalled_paths};
+use plan_compile::{EdgeNames, OutOfDateRule, collect_names};
+use plan_graph::{Graph, MAX_EDGES};
+use plan_image::Image;
+use plan_lanes::World;
+use plan_printing::{PlanFault, no_memory};
+use plan_scope::{Addition, EdgeList, Manifest, extended_is_sound};
+use plan_verify::Verified;
+use std::alloc::{AllocError, Global};
+use std::thread::{Threads, join};
+
+/// What a manifest compiles to, given the record.
+pub(crate) enum Compiled {
+    /// The record adds nothing to the manifest. This is its image.
+    Image(Image),
+    /// The record adds this to the manifest.
+    Lacks(Vec<Addition>),
+}
+
+/// Returns the reason why a manifest of more edges than a graph may have has no graph.
+fn refusal_of(alloc: Global, manifest: &Manifest) -> PlanFault
+    ensures { LacksGraph manifest.now result }
+{
+    match graph_of(alloc, manifest) {
+        Ok(graph) => {
+            drop(graph);
+            no_memory(alloc)
+        }
+        Err(fault) => fault,
+    }
+}
+
+/// Returns the recorded paths of edges. Ends the entries that don't count, too: a world tells the recorded paths of
+/// those as well.
+fn recalled_entries<W: World>(
+    alloc: Global,
+    world: &W,
+    edges: &EdgeList,
+) -> Result<Vec<Addition>, AllocError>
+    requires { length edges.now ≤ max_edges }
+    ensures { IfOk result (λ a. AreRecalled W.allows edges.now a.items) }
+{
+    check_entries(alloc, world, edges)?;
+    recalled_paths(alloc, world, edges)
+}
+
+/// Returns the recorded paths of edges like `recalled_entries`, by two threads.
+fn recalled_by_two<R: Threads + Sync, W: World + Send + Sync>(
+    rt: &R,
+    alloc: Global,
+    world: &W,
+    edges: &EdgeList,
+) -> Result<Vec<Addition>, AllocError>
+    requires { length edges.now ≤ max_edges }
+    ensures { IfOk result (λ a. AreRecalled W.allows edges.now a.items) }
+{
+    let (recalled, checked) = join(
+        rt,
+        || recalled_paths(alloc, world, edges),
+        || check_entries(alloc, world, edges),
+    );
+    match checked {
+        Ok(()) => recalled,
+        Err(error) => {
+            drop(recalled);
+            Err(error)
+        }
+    }
+}
+
+/// Builds the graph of a manifest, and meanwhile collects its names and asks the record about its edges.
+fn graph_beside_paths<'a, R: Threads + Sync, W: World + Send + Sync>(
+    rt: &R,
+    alloc: Global,
+    world: &W,
+    manifest: &'a Manifest,
+) -> (
+    (
+        Result<Graph<'a>, PlanFault>,
+        Result<EdgeNames<'a>, AllocError>,
+    ),
+    Result<Vec<Addition>, AllocError>,
+)
+    requires { length manifest.now.edges ≤ max_edges }
+    ensures graph { IfOk result.0.0 (λ g. IsGraph manifest.now g) }
+    ensures refused { IfErr result.0.0 (λ fault. LacksGraph manifest.now fault) }
+    ensures names { IfOk result.0.1 (AreNames manifest.now.edges) }
+    ensures recalled { IfOk result.1 (λ a. AreRecalled W.allows manifest.now.edges a.items) }
+{
+    join(
+        rt,
+        || -> (
+            Result<Graph<'_>, PlanFault>,
+            Result<EdgeNames<'_>, AllocError>,
+        )
+            requires { IsSync R.row × (length manifest.now.edges ≤ max_edges) }
+            ensures { IfOk result.0 (λ g. IsGraph manifest.entry.now g) × IfErr result.0 (λ fault. LacksGraph manifest.entry.now fault) × IfOk result.1 (AreNames manifest.entry.now.edges) }
+        { graph_and_names(rt, alloc, manifest) },
+        || -> Result<Vec<Addition>, AllocError>
+            requires { IsSync R.row × IsSend W.row × IsSync W.row × (length manifest.now.edges ≤ max_edges) }
+            ensures { IfOk result (λ a. AreRecalled W.allows manifest.entry.now.edges a.items) }
+        { recalled_by_two(rt, alloc, world, &manifest.edges) },
+    )
+}
+
+/// Returns the graph of a manifest, its names, and the recorded paths of its edges. If the manifest has few edges, or
+/// no thread can be started, finds one after the other.
+fn graph_and_paths<'a, R: Threads + Sync, W: World + Send + Sync>(
+    rt: &R,
+    alloc: Global,
+    world: &W,
+    manifest: &'a Manifest,
+) -> (
+    (
+        Result<Graph<'a>, PlanFault>,
+        Result<EdgeNames<'a>, AllocError>,
+    ),
+    Result<Vec<Addition>, AllocError>,
+)
+    requires { length manifest.now.edges ≤ max_edges }
+    ensures graph { IfOk result.0.0 (λ g. IsGraph manifest.now g) }
+    ensures refused { IfErr result.0.0 (λ fault. LacksGraph manifest.now fault) }
+    ensures names { IfOk result.0.1 (AreNames manifest.now.edges) }
+    ensures recalled { IfOk result.1 (λ a. AreRecalled W.allows manifest.now.edges a.items) }
+{
+    if manifest.edges.len() >= FEW_EDGES {
+        return graph_beside_paths(rt, alloc, world, manifest);
+    }
+    let graph = graph_of(alloc, manifest);
+    let names = collect_names(alloc, manifest);
+    let recalled = recalled_entries(alloc, world, &manifest.edges);
+    ((graph, names), recalled)
+}
+
+/// Returns what the record adds to a manifest.
+fn additions_of<'a, W: World>(
+    alloc: Global,
+    world: &W,
+    manifest: &Manifest,
+    graph: &Graph<'a>,
+    recalled: Result<Vec<Addition>, AllocError>,
+) -> Result<Vec<Addition>, PlanFault>
+    requires graph { IsGraph manifest.now graph.now }
+    requires recalled { IfOk recalled (λ a. AreRecalled W.allows manifest.now.edges a.items) }
+    ensures recorded { IfOk result (λ a. AreRecorded W.allows manifest.now a.items) }
+    ensures memory { IfErr result (λ fault. fault ≡ faults.no_memory) }
+{
+    let Ok(recalled) = recalled else {
+        return Err(no_memory(alloc));
+    };
+    match needed_inputs(alloc, world, manifest, graph, &recalled) {
+        Ok(additions) => Ok(additions),
+        Err(_) => Err(no_memory(alloc)),
+    }
+}
+
+/// Compiles a manifest by its graph and its names, unless the record adds something to it.
+fn compile_with_graph<'a, R: Threads + Sync, W: World>(
+    rt: &R,
+    alloc: Global,
+    world: &W,
+    manifest: &'a Manifest,
+    graph: Graph<'a>,
+    names: Result<EdgeNames<'a>, AllocError>,
+    recalled: Result<Vec<Addition>, AllocError>,
+) -> Result<Compiled, PlanFault>
+    requires sound { IsSound manifest.now }
+    requires graph { IsGraph manifest.now graph }
+    requires names { IfOk names (AreNames manifest.now.edges) }
+    requires recalled { IfOk recalled (λ a. AreRecalled W.allows manifest.now.edges a.items) }
+    ensures compiled { IfOk result (λ c. IsCompiled W.allows manifest.now c) }
+    ensures refused { IfErr result (λ fault. LacksRecorded W.allows manifest.now fault) }
+{
+    let additions = match additions_of(alloc, world, manifest, &graph, recalled) {
+        Ok(additions) => additions,
+        Err(fault) => return Err(fault),
+    };
+    if !additions.is_empty() {
+        return Ok(Compiled::Lacks(additions));
+    }
+    match image_with(rt, alloc, manifest, graph, names, OutOfDateRule::Stricter) {
+        Ok(image) => Ok(Compiled::Image(image)),
+        Err(fault) => Err(fault),
+    }
+}
+
+/// Compiles a manifest, unless the record adds something to it.
+fn compile_recorded<R: Threads + Sync, W: World + Send + Sync>(
+    rt: &R,
+    alloc: Global,
+    world: &W,
+    manifest: &Manifest,
+) -> Result<Compiled, PlanFault>
+    requires { IsSound manifest.now }
+    ensures compiled { IfOk result (λ c. IsCompiled W.allows manifest.now c) }
+    ensures refused { IfErr result (λ fault. LacksRecorded W.allows manifest.now fault) }
+{
+    if manifest.edges.len() > MAX_EDGES {
+        return Err(refusal_of(alloc, manifest));
+    }
+    let ((graph, names), recalled) = graph_and_paths(rt, alloc, world, manifest);
+    match graph {
+        Ok(graph) => compile_with_graph(rt, alloc, world, manifest, graph, names, recalled),
+        Err(fault) => Err(fault),
+    }
+}
+
+/// Adds to a manifest what the record adds to it, and compiles it.
+fn compile_extended<R: Threads + Sync>(
+    rt: &R,
+    alloc: Global,
+    manifest: &mut Manifest,
+    additions: &[Addition],
+) -> Result<Verified, PlanFault>
+    requires sound { IsSound manifest.old }
+    requires additions { AreSoundFor manifest.old additions.now }
+    ensures image { IfOk result (λ image. IsImageOf OutOfDateRule.Stricter (extended additions.now manifest.old) image) }
+    ensures sound { IsSound manifest.new }
+    ensures refused { IfErr result (λ fault. LacksGraph (extended additions.now manifest.old) fault ⊎ LacksImageOf OutOfDateRule.Stricter (extended additions.now manifest.old) fault) }
+{
+    extended_is_sound();
+    match manifest.extend_all(alloc, additions) {
+        Ok(()) => match image_by(rt, alloc, &*manifest, OutOfDateRule::Stricter) {
+            Ok(image) => Ok(Verified::of_shaped(image)),
+            Err(fault) => Err(fault),
+        },
+        Err(_) => Err(no_memory(alloc)),
+    }
+}
+
+/// Adds to a manifest what the record adds to it, and compiles it into an image with the stricter out-of-date rule. The
+/// image isn't verified again, since the verifier accepts each image that the compiler makes.
+pub(crate) fn image_recorded<R: Threads + Sync, W: World + Send + Sync>(
+    rt: &R,
+    alloc: Global,
+    world: &W,
+    manifest: &mut Manifest,
+) -> Result<Verified, PlanFault>
+    requires { IsSound manifest.old }
+    ensures image { IfOk result (λ image. IsImageRecorded W.allows manifest.old image) }
+    ensures sound { IsSound manifest.new }
+    ensures refused { IfErr result (λ fault. LacksRecorded W.allows manifest.old fault) }
+{
+    match compile_recorded(rt, alloc, world, &*manifest) {
+        Ok(Compiled::Image(image)) => Ok(Verified::of_shaped(image)),
+        Ok(Compiled::Lacks(additions)) => compile_extended(rt, alloc, manifest, &additions),
+        Err(fault) => Err(fault),
+    }
+}
