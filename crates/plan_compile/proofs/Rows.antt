@@ -581,6 +581,7 @@ manifest_edge command description depfile phony pool = record {
   command = command;
   description = description;
   depfile = depfile;
+  deps = false;
   restat = false;
   generator = false;
   phony = phony;

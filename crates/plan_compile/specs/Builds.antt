@@ -29,6 +29,7 @@ no_edge = record {
   command = [];
   description = [];
   depfile = [];
+  deps = false;
   restat = false;
   generator = false;
   phony = false;

@@ -33,6 +33,7 @@ line phony outputs implicit_outputs inputs implicit_inputs order_only_inputs = r
   command = codes "true";
   description = [];
   depfile = [];
+  deps = false;
   restat = false;
   generator = false;
   phony = phony;

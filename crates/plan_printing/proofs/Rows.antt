@@ -20,6 +20,7 @@ edge outputs implicit_outputs = record {
   command = codes "true";
   description = [];
   depfile = [];
+  deps = false;
   restat = false;
   generator = false;
   phony = false;

@@ -38,7 +38,7 @@ paths_stay rows more p h =
     (between_more p.order_only_inputs p.end rows more e)
 
 abbrev made : PathLists (List Text) → Text → Text → Text → Text → EdgeMarks → Edge
-made paths command description depfile pool m = record { paths = paths; command = command; description = description; depfile = depfile; restat = m.restat; generator = m.generator; phony = m.phony; pool = pool }
+made paths command description depfile pool m = record { paths = paths; command = command; description = description; depfile = depfile; deps = m.deps; restat = m.restat; generator = m.generator; phony = m.phony; pool = pool }
 
 same_made : (p q : PathLists (List Text)) (a b c d w x y z : Text) (m : EdgeMarks) → p ≡ q → a ≡ w → b ≡ x → c ≡ y → d ≡ z → made p a b c d m ≡ made q w x y z m
 same_made p q a b c d w x y z m e f g h i = cc
@@ -114,8 +114,8 @@ edge_put before now more others m p t n within places texts =
 
 -- An edge whose texts were appended.
 pub texts_put : (now : List Text) (paths : PathLists (List Text)) (v : Variables) (m : EdgeMarks) → get_or now m.command [] ≡ v.command → get_or now m.description [] ≡ v.description
-    → get_or now m.depfile [] ≡ v.depfile → get_or now m.pool [] ≡ v.pool → m.restat ≡ is_present v.restat → m.generator ≡ is_present v.generator → edge_with paths now m ≡ edge_of paths v m.phony
-texts_put now paths v m c d e f r g = cc
+    → get_or now m.depfile [] ≡ v.depfile → get_or now m.pool [] ≡ v.pool → m.deps ≡ is_present v.deps → m.restat ≡ is_present v.restat → m.generator ≡ is_present v.generator → edge_with paths now m ≡ edge_of paths v m.phony
+texts_put now paths v m c d e f k r g = cc
 
 -- A refusal of an edge's texts is one of the edge.
 pub marks_refused : (paths : PathLists (List Text)) (places : PathPlaces) (old new : List Text) (before now : EdgeRows) (fault : StatementFault) (held meant : Result Edge Cause) → held ≡ meant

@@ -130,7 +130,7 @@ paths_put first one two three four now p q a placed put count =
 
 -- The marks of an edge with other places of its paths.
 abbrev pub placed_at : PathPlaces → EdgeMarks → EdgeMarks
-placed_at q m = record { paths = q; command = m.command; description = m.description; depfile = m.depfile; pool = m.pool; restat = m.restat; generator = m.generator; phony = m.phony }
+placed_at q m = record { paths = q; command = m.command; description = m.description; depfile = m.depfile; deps = m.deps; pool = m.pool; restat = m.restat; generator = m.generator; phony = m.phony }
 
 edge_kept : (rows more texts : List Text) (count : ℕ) (m : EdgeMarks) → IsPlaced (length rows) count m → edge_at (rows ++ more) texts m ≡ edge_at rows texts m
 edge_kept rows more texts count m h = ap (λ (p : PathLists (List Text)). edge_with p texts m) (paths_stay rows more m.paths h.paths)

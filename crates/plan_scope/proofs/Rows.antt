@@ -96,7 +96,7 @@ in_of_file = refl
 
 -- Paths are quoted in a command and a description, including inside the variables that these refer to, and not in other
 -- variables.
-quoting : manifest (codes "rule r" ++ lf ++ codes "  command = c $rspfile_content" ++ lf ++ codes "  description = d $in" ++ lf ++ codes "  depfile = $in.d" ++ lf ++ codes "  rspfile_content = $out" ++ lf ++ codes "build a$ b/./c | d: r e$ f | .//g || h")
+quoting : manifest (codes "rule r" ++ lf ++ codes "  command = c $rspfile_content" ++ lf ++ codes "  description = d $in" ++ lf ++ codes "  depfile = $in.d" ++ lf ++ codes "  deps = gcc" ++ lf ++ codes "  rspfile_content = $out" ++ lf ++ codes "build a$ b/./c | d: r e$ f | .//g || h")
     ≡ Ok (record {
       edges = record {
         paths = record {
@@ -109,6 +109,7 @@ quoting : manifest (codes "rule r" ++ lf ++ codes "  command = c $rspfile_conten
         command = codes "c 'a b/c'";
         description = codes "d 'e f'";
         depfile = codes "e f.d";
+        deps = true;
         restat = false;
         generator = false;
         phony = false;
@@ -191,6 +192,7 @@ defaults : manifest (codes "default x/../a" ++ lf ++ codes "build a: phony" ++ l
         command = [];
         description = [];
         depfile = [];
+        deps = false;
         restat = false;
         generator = false;
         phony = true;
@@ -282,7 +284,7 @@ parts_by_line = refl
 -- === Additions ===
 
 abbrev edge_of_paths : Paths → Edge
-edge_of_paths paths = record { paths = paths; command = codes "c"; description = []; depfile = []; restat = true; generator = false; phony = false; pool = [] }
+edge_of_paths paths = record { paths = paths; command = codes "c"; description = []; depfile = []; deps = false; restat = true; generator = false; phony = false; pool = [] }
 
 -- build a | b: r d | e || f
 abbrev plain_edge : Edge

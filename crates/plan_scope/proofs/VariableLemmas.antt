@@ -277,6 +277,7 @@ edge_same h b p u v t r e far long =
     let command : u.command ≡ v.command = cc in
     let description : u.description ≡ v.description = cc in
     let depfile : u.depfile ≡ v.depfile = cc in
+    let deps : is_present u.deps ≡ is_present v.deps = cc in
     let restat : is_present u.restat ≡ is_present v.restat = cc in
     let generator : is_present u.generator ≡ is_present v.generator = cc in
     let pool : u.pool ≡ v.pool = cc in

@@ -14,6 +14,7 @@ edge_with paths texts m = record {
   command = get_or texts m.command [];
   description = get_or texts m.description [];
   depfile = get_or texts m.depfile [];
+  deps = m.deps;
   restat = m.restat;
   generator = m.generator;
   phony = m.phony;

@@ -205,6 +205,7 @@ edge_of p v is_phony = record {
   command = v.command;
   description = v.description;
   depfile = v.depfile;
+  deps = is_present v.deps;
   restat = is_present v.restat;
   generator = is_present v.generator;
   phony = is_phony;

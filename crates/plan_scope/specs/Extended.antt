@@ -24,6 +24,7 @@ edge_having paths e = record {
   command = e.command;
   description = e.description;
   depfile = e.depfile;
+  deps = e.deps;
   restat = e.restat;
   generator = e.generator;
   phony = e.phony;

@@ -362,7 +362,7 @@ fn lists_of_an_edge(rt: HostRuntime) -> Result<(), Fail> {
 #[test]
 fn texts_of_an_edge(rt: HostRuntime) -> Result<(), Fail> {
     let text =
-        b"pool p\n  depth = 3\nrule r\n  command = c\n  description = D $out\n  depfile = $out.d\n  restat = 1\n  pool = p\nbuild a$ b: r\n";
+        b"pool p\n  depth = 3\nrule r\n  command = c\n  description = D $out\n  depfile = $out.d\n  deps = gcc\n  restat = 1\n  pool = p\nbuild a$ b: r\n";
     let Ok(manifest) = meaning(rt.alloc(), text) else {
         panic!(rt; "no manifest");
     };
@@ -372,7 +372,22 @@ fn texts_of_an_edge(rt: HostRuntime) -> Result<(), Fail> {
     assert!(rt; is_text(rt.alloc(), &edge.description(), b"D 'a b'"));
     assert!(rt; is_text(rt.alloc(), &edge.depfile(), b"a b.d"));
     assert!(rt; is_text(rt.alloc(), &edge.pool(), b"p"));
-    assert!(rt; edge.has_restat() && !edge.is_generator() && !edge.is_phony());
+    assert!(rt; edge.has_deps() && edge.has_restat() && !edge.is_generator() && !edge.is_phony());
+    Ok(())
+}
+
+#[test]
+fn depfile_that_stands_for_itself(rt: HostRuntime) -> Result<(), Fail> {
+    let text =
+        b"rule r\n  command = c\n  depfile = $out.d\n  deps = $none\n  restat = 1\nbuild a: r\n";
+    let Ok(manifest) = meaning(rt.alloc(), text) else {
+        panic!(rt; "no manifest");
+    };
+    let Some(edge) = only_edge(&manifest) else {
+        panic!(rt; "not one edge");
+    };
+    assert!(rt; is_text(rt.alloc(), &edge.depfile(), b"a.d"));
+    assert!(rt; edge.has_restat() && !edge.has_deps());
     Ok(())
 }
 

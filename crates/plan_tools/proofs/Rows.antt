@@ -55,6 +55,7 @@ an_edge phony generator = record {
   command = codes "touch o";
   description = [];
   depfile = [];
+  deps = false;
   restat = false;
   generator = generator;
   phony = phony;

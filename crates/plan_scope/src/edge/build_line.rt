@@ -130,6 +130,7 @@ fn marks_of(
         description: put_text(texts, variables.description.as_slice())?,
         depfile: put_text(texts, variables.depfile.as_slice())?,
         pool: put_text(texts, variables.pool.as_slice())?,
+        deps: is_present(variables.deps.as_slice()),
         restat: is_present(variables.restat.as_slice()),
         generator: is_present(variables.generator.as_slice()),
         phony,

@@ -154,6 +154,14 @@ impl<'a> EdgeRef<'a> {
         self.texts.text(self.marks.depfile as usize)
     }
 
+    /// Checks whether `deps` is set: the depfile is read once, when the command has ended, and what it names is kept in
+    /// the record. Otherwise the depfile stands for itself, also if something else writes it later.
+    pub fn has_deps(&self) -> bool
+        ensures { result ≡ self.now.deps }
+    {
+        self.marks.deps
+    }
+
     /// Returns the name of its pool, or an empty text if it has none.
     pub fn pool(&self) -> EdgeText<'a>
         ensures { whole result ≡ self.now.pool }
@@ -198,6 +206,8 @@ pub struct EdgeMarks {
     pub depfile: u32,
     /// The number of its pool's name among the texts.
     pub pool: u32,
+    /// Whether its depfile is read once, when its command has ended.
+    pub deps: bool,
     /// Whether outputs that its command leaves unchanged count as if they had never needed building.
     pub restat: bool,
     /// Whether it builds the manifest's own files. A change of only its command then doesn't run it again.

@@ -18,8 +18,8 @@ returns-clause-edge c = λ begins paths.
     let description = text_stays _ _ _ _ four.more (text_stays _ _ _ _ three.more (two.text b2)) in
     let depfile = text_stays _ _ _ _ four.more (three.text b3) in
     let pool = four.text b4 in
-    let marks : EdgeMarks = record { paths = c.args.places; command = c.in_ok-put_text.field-0; description = c.in_ok-put_text-2.field-0; depfile = c.in_ok-put_text-3.field-0; pool = c.in_ok-put_text-4.field-0; restat = c.is_present.result; generator = c.is_present-2.result; phony = c.args.phony } in
-    texts_put _ paths v marks (command.0 ∙ c.as_slice.ensures) (description.0 ∙ c.as_slice-2.ensures) (depfile.0 ∙ c.as_slice-3.ensures) (pool.0 ∙ c.as_slice-4.ensures) (c.is_present.ensures ∙ ap is_present c.as_slice-5.ensures) (c.is_present-2.ensures ∙ ap is_present c.as_slice-6.ensures)
+    let marks : EdgeMarks = record { paths = c.args.places; command = c.in_ok-put_text.field-0; description = c.in_ok-put_text-2.field-0; depfile = c.in_ok-put_text-3.field-0; pool = c.in_ok-put_text-4.field-0; deps = c.is_present.result; restat = c.is_present-2.result; generator = c.is_present-3.result; phony = c.args.phony } in
+    texts_put _ paths v marks (command.0 ∙ c.as_slice.ensures) (description.0 ∙ c.as_slice-2.ensures) (depfile.0 ∙ c.as_slice-3.ensures) (pool.0 ∙ c.as_slice-4.ensures) (c.is_present.ensures ∙ ap is_present c.as_slice-5.ensures) (c.is_present-2.ensures ∙ ap is_present c.as_slice-6.ensures) (c.is_present-3.ensures ∙ ap is_present c.as_slice-7.ensures)
 
 pub returns-clause-within : goal.returns-clause-within
 returns-clause-within c = λ begins.
