@@ -37,7 +37,8 @@ pub fn paths_among(
     Ok(found)
 }
 
-/// Returns the paths of the entry in a reply that may be in a set. Returns None if the reply is no entry.
+/// Returns the paths of the entry in a reply that may be in a set. Returns None if the reply is no entry, or one
+/// without paths.
 pub(crate) fn replied_among(
     alloc: Global,
     reply: &Reply,
@@ -46,7 +47,7 @@ pub(crate) fn replied_among(
     ensures { IfOk result (λ found. IfSome found (λ paths. AreAmong wanted.now (paths_of reply.now) paths)) }
 {
     match reply {
-        Reply::Entry(recorded) => {
+        Reply::Entry(recorded) if recorded.paths().len() > 0 => {
             let paths = paths_among(alloc, recorded.paths(), wanted)?;
             Ok(Some(paths))
         }

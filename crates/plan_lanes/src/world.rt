@@ -58,7 +58,8 @@ pub trait World {
         ensures { IfOk result (λ r. Self.allows number (Recall output.now) r) };
 
     /// Returns the paths of the entry that the record has for an output, except those that are not in a set. The set
-    /// may say too often that it has a path. Returns None if there is no entry of a command that ended.
+    /// may say too often that it has a path. Returns None if there is no entry of a command that ended, or if the entry
+    /// has no paths: the depfile may say more then.
     ///
     /// # Errors
     /// `AllocError` if memory runs out.
@@ -83,6 +84,11 @@ pub trait World {
     /// Returns when the first command of this build began: the stamp that a file would have got then. Returns None if
     /// no command has begun, or if this isn't known.
     fn first_begin(&self) -> Option<u64> {
+        None
+    }
+
+    /// Returns the time now, by the clock from which files get their stamps. Returns None if this isn't known.
+    fn now(&self) -> Option<u64> {
         None
     }
 

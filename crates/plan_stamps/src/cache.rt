@@ -212,6 +212,10 @@ impl<R: Wait, W: World> World for StampCache<'_, R, W> {
         self.inner.world.first_begin()
     }
 
+    fn now(&self) -> Option<u64> {
+        self.inner.world.now()
+    }
+
     fn is_file(&self, path: &[u8]) -> bool {
         self.inner.world.is_file(path)
     }

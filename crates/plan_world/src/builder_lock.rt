@@ -3,11 +3,13 @@
 use crate::fault::DeviceFault;
 use crate::holders::{holds_by_input, is_nested};
 use crate::processes::{FileName, name_in, own_process};
+use crate::stamp::stamp_at;
 use crate::waiting::wait_for;
 use std::alloc::Global;
 use std::env::{self, Env, VarError};
-use std::fs::{self, File, OpenFile, OpenOptions, TryLockError};
+use std::fs::{self, File, Metadata, OpenFile, OpenOptions, TryLockError};
 use std::io::{self, ErrorKind, Seek, SeekFrom, Write};
+use std::os::unix::fs::MetadataExt;
 use std::process::Stdio;
 use std::rt::Files;
 use std::time::Clock;
@@ -165,6 +167,26 @@ impl<F> BuilderLock<F> {
     pub(crate) fn names(&self) -> &str {
         &self.names
     }
+}
+
+impl<F: OpenFile> BuilderLock<F> {
+    /// Returns the time now, by the clock from which files of this file system get their stamps: that of the lock's
+    /// file after it was set to the length that it has. Returns None if the lock isn't held, or if that fails.
+    pub(crate) fn now(&self) -> Option<u64> {
+        let Some(file) = &self.file else {
+            return None;
+        };
+        match set_again(file) {
+            Ok(found) => Some(stamp_at(found.mtime(), found.mtime_nsec())),
+            Err(_) => None,
+        }
+    }
+}
+
+/// Sets a file to the length that it has, so that it counts as changed now. Returns its metadata after that.
+fn set_again<F: OpenFile>(file: &F) -> io::Result<Metadata> {
+    file.set_len(file.metadata()?.len())?;
+    file.metadata()
 }
 
 impl<F: SharedFile> BuilderLock<F> {

@@ -88,3 +88,15 @@ pub(crate) fn read_depfile<R: Files + AllocGlobal>(rt: &R, path: &[u8]) -> Resul
         Err(error) => without(error, Reply::Nothing),
     }
 }
+
+/// Checks whether the depfile in a reply is missing, or names nothing.
+pub(crate) fn names_nothing(alloc: Global, reply: &Reply) -> Result<bool, AllocError> {
+    match reply {
+        Reply::Nothing => Ok(true),
+        Reply::Bytes(depfile) => match depfile.result(alloc)? {
+            Ok(paths) => Ok(paths.len() == 0),
+            Err(_) => Ok(false),
+        },
+        _ => Ok(false),
+    }
+}

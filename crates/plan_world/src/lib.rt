@@ -3,7 +3,7 @@
 //! - `RealWorld`: stamps of files, commands run by `/bin/sh`, depfiles, and a record file that is open.
 //! - `Shells`: starts the shells of commands and waits for them. `SystemShells`: the shells of the system.
 //! - `OpenFault`: why a record can't be opened.
-//! - `recompact`, `restat`, `recorded_outputs`: rewrite or list a record between builds.
+//! - `recompact`, `restat`, `recorded_outputs`, `recorded_paths`: rewrite or list a record between builds.
 //! - `SharedFile`: a file with a lock, such as the record's file. `VARIABLE` names the builders above a command.
 //! - `Process`, `all_processes`, `own_process`, `with_below`: the processes of the system.
 //!
@@ -35,7 +35,7 @@ mod world;
 
 pub use builder_lock::{SharedFile, VARIABLE};
 pub use fault::OpenFault;
-pub use maintenance::{recompact, recorded_outputs, restat};
+pub use maintenance::{recompact, recorded_outputs, recorded_paths, restat};
 pub use processes::{Process, all_processes, own_process, with_below};
 pub use shell::{Printed, Shells, SystemShells};
 pub use world::RealWorld;

@@ -4,8 +4,10 @@ use crate::builder_lock::{BuilderLock, SharedFile, take_lock};
 use crate::fault::{DeviceFault, OpenFault};
 use crate::reasons::say;
 use crate::record_file::{RecordFile, open_file, open_record};
+use crate::record_sink::entry_among;
 use crate::rewriting::{compact, restate};
-use plan_text::RowList;
+use plan_text::{PathFilter, RowList};
+use std::alloc::{AllocError, Global};
 use std::env::Env;
 use std::fs::{self, OpenFile};
 use std::io::{Read, Seek, Write};
@@ -157,5 +159,87 @@ where
         "can't read the record",
         record,
         outputs_of_file(rt, record),
+    )
+}
+
+/// Appends some paths to others.
+fn push_all(paths: &RowList<u8>, all: &mut RowList<u8>) -> Result<(), AllocError> {
+    for number in 0..paths.len() {
+        all.push(paths.row(number))?;
+    }
+    Ok(())
+}
+
+/// Appends those paths of the last entry of an output that may be in a set.
+fn push_recorded<F>(
+    alloc: Global,
+    file: &RecordFile<F>,
+    output: &[u8],
+    wanted: &PathFilter,
+    found: &mut RowList<u8>,
+) -> Result<(), DeviceFault> {
+    let Some(entry) = file.last(alloc, output)? else {
+        return Ok(());
+    };
+    if let Some(paths) = entry_among(alloc, &entry, wanted)? {
+        push_all(&paths, found)?;
+    }
+    Ok(())
+}
+
+/// Returns those paths of the last entries of these outputs in a record that may be in a set.
+fn paths_of_record<F>(
+    alloc: Global,
+    file: &RecordFile<F>,
+    outputs: &RowList<u8>,
+    wanted: &PathFilter,
+) -> Result<RowList<u8>, DeviceFault> {
+    let mut found = RowList::new(alloc);
+    for number in 0..outputs.len() {
+        push_recorded(alloc, file, outputs.row(number), wanted, &mut found)?;
+    }
+    Ok(found)
+}
+
+/// Returns those paths of the last entries of these outputs that may be in a set. Returns none if the record doesn't
+/// exist.
+fn paths_of_file<R: Files + Env + Clock + Eprint + AllocGlobal + Clone + Drop>(
+    rt: &R,
+    record: &str,
+    outputs: &RowList<u8>,
+    wanted: &PathFilter,
+) -> Result<RowList<u8>, DeviceFault>
+where
+    R::File: Read + Write + Seek + OpenFile + SharedFile + Drop,
+{
+    if !fs::exists(rt, record)? {
+        return Ok(RowList::new(rt.alloc()));
+    }
+    let (_lock, file) = locked_record(rt, record)?;
+    paths_of_record(rt.alloc(), &file, outputs, wanted)
+}
+
+/// Returns those paths that may be in a set and that the last commands of the edges with these first outputs read: the
+/// paths of their entries, in order. The set may say too often that it has a path. A command that failed or didn't end
+/// has no paths. If the record doesn't exist, returns no paths, and creates no record.
+///
+/// Waits like `recorded_outputs`.
+///
+/// # Errors
+/// As for `recorded_outputs`.
+pub fn recorded_paths<R: Files + Env + Clock + Eprint + AllocGlobal + Clone + Drop>(
+    rt: &R,
+    record: &str,
+    outputs: &RowList<u8>,
+    wanted: &PathFilter,
+) -> Result<RowList<u8>, OpenFault>
+where
+    R::File: Read + Write + Seek + OpenFile + SharedFile + Drop,
+{
+    report_fault(
+        rt,
+        "can't read the record",
+        record,
+        paths_of_file(rt, record, outputs, wanted),
     )
 }

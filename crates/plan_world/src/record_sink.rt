@@ -1,7 +1,7 @@
 //! The record's file as a sink, and conversions between the machine's and the record's forms of an entry. Other
 //! builders append to the file too, under the file's lock.
 
-ghost use Rattle.std.specs.Prelude.{◌≡◌, ◌≤◌, ◌+◌, ◌++◌, [], false, true, IfErr, IfOk, IfSome, OnErr, OnOk, Some, drop, get_or, length, is_some, not, option_to_list, ◌≢◌, map, IsTrue, ◌↔◌};
+ghost use Rattle.std.specs.Prelude.{◌≡◌, ◌≤◌, ◌+◌, ◌++◌, [], false, true, IfErr, IfOk, IfSome, OnErr, OnOk, Some, drop, get_or, length, is_none, ◌||◌, option_to_list, slice_get, ◌≢◌, map, IsTrue, ◌↔◌};
 ghost use Rattle.std.specs.Io.KnownBytes.{Appends};
 ghost use Rattle.plan_record.specs.Among.{AreAmong};
 ghost use Rattle.plan_record.specs.Entries.{spelling, HasSpelling};
@@ -328,18 +328,19 @@ pub(crate) fn is_begun_with(first: &[u8], last: &Entry) -> Result<bool, DeviceFa
     }
 }
 
-/// Returns those paths of an entry that may be in a set. Returns None if it is a start entry.
+/// Returns those paths of an entry that may be in a set. Returns None if it is a start entry, or if it has no paths.
 pub(crate) fn entry_among(
     alloc: Global,
     entry: &Entry,
     wanted: &PathFilter,
 ) -> Result<Option<RowList<u8>>, DeviceFault>
     ensures among { IfOk result (λ found. IfSome found (λ paths. AreAmong wanted.now entry.now.paths paths)) }
-    ensures begun { IfOk result (λ found. is_some found ≡ not (is_begun entry.now)) }
+    ensures none { IfOk result (λ found. is_none found ≡ (is_begun entry.now || is_none (slice_get entry.now.paths 0))) }
 {
-    if is_begun(entry) {
+    let paths = entry.paths()?;
+    if is_begun(entry) || paths.first().is_none() {
         return Ok(None);
     }
-    let found = entry.paths()?.among(alloc, wanted)?;
+    let found = paths.among(alloc, wanted)?;
     Ok(Some(found))
 }

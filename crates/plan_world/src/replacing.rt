@@ -4,7 +4,7 @@ ghost use Rattle.std.specs.Prelude.{◌≡◌, IfOk, OnOk};
 ghost use Rattle.std.specs.Io.KnownBytes.{Appends};
 
 use crate::fault::DeviceFault;
-use std::fs::{self, Metadata, OpenFile, OpenOptions};
+use std::fs::{self, FileTimes, Metadata, OpenFile, OpenOptions};
 use std::io::{ErrorKind, Write};
 use std::marker::Model;
 use std::os::unix::fs::{MetadataExt, chown};
@@ -38,6 +38,23 @@ fn write_whole<'a, F: Write + OpenFile>(
     Ok(Written { bytes })
 }
 
+/// When a file that replaces another one counts as changed.
+#[derive(Clone, Copy, PartialEq, Eq)]
+pub(crate) enum Changed {
+    /// When it was written.
+    Now,
+    /// When the file that it replaces was changed.
+    AsBefore,
+}
+
+/// Gives a file the date of another file, if it counts as changed when that one was.
+fn set_date<F: OpenFile>(file: &F, changed: Changed, like: &Metadata) -> Result<(), DeviceFault> {
+    if changed == Changed::AsBefore {
+        file.set_times(FileTimes::new().set_modified(like.modified()?))?;
+    }
+    Ok(())
+}
+
 /// Creates a file with these bytes, and with the owner and the permissions of another file. Removes an old file at this
 /// path.
 fn create_like<'a, R: Files>(
@@ -45,6 +62,7 @@ fn create_like<'a, R: Files>(
     path: &str,
     bytes: &'a [u8],
     like: &Metadata,
+    changed: Changed,
 ) -> Result<Written<'a>, DeviceFault>
     ensures { IfOk result (λ w. w ≡ bytes.now) }
 {
@@ -55,7 +73,9 @@ fn create_like<'a, R: Files>(
         .open(rt, path)?;
     chown(rt, path, Some(like.uid()), Some(like.gid()))?;
     file.set_permissions(like.permissions())?;
-    write_whole(&mut file, bytes)
+    let written = write_whole(&mut file, bytes)?;
+    set_date(&file, changed, like)?;
+    Ok(written)
 }
 
 /// Renames a file that was written, so that it replaces another file.
@@ -76,14 +96,15 @@ fn create_in_place<R: Files>(
     path: &str,
     bytes: &[u8],
     like: &Metadata,
+    changed: Changed,
 ) -> Result<(), DeviceFault> {
-    let written = create_like(rt, new, bytes, like)?;
+    let written = create_like(rt, new, bytes, like, changed)?;
     put_in_place(rt, new, path, written)
 }
 
-/// Replaces a file by a new one with these bytes, and with the same owner and permissions. The new file is PATH.new
-/// until it is complete, so a kill at any time leaves the old file or the new one at the path. A builder that has the
-/// old file open notices that it has no name any more. So a file with several names is refused.
+/// Replaces a file by a new one with these bytes, with the same owner and permissions, and maybe with its date. The new
+/// file is PATH.new until it is complete, so a kill at any time leaves the old file or the new one at the path. A
+/// builder that has the old file open notices that it has no name any more. So a file with several names is refused.
 ///
 /// # Errors
 /// `System` if the new file can't be created, written or renamed, or if the file has several names, and `Memory`.
@@ -92,12 +113,13 @@ pub(crate) fn replace_file<R: Files + AllocGlobal>(
     path: &str,
     bytes: &[u8],
     like: &Metadata,
+    changed: Changed,
 ) -> Result<(), DeviceFault> {
     if like.nlink() > 1 {
         return Err(DeviceFault::System(ErrorKind::TooManyLinks));
     }
     let new = format!(in rt.alloc(); "{path}.new")?;
-    let replaced = create_in_place(rt, new.as_str(), path, bytes, like);
+    let replaced = create_in_place(rt, new.as_str(), path, bytes, like, changed);
     if replaced.is_err() {
         let _ = fs::remove_file(rt, new.as_str());
     }

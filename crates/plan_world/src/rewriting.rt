@@ -11,14 +11,15 @@ ghost use Rattle.plan_world.specs.Rewriting.{restated};
 use crate::builder_lock::{BuilderLock, SharedFile};
 use crate::fault::DeviceFault;
 use crate::record_file::{RecordFile, open_record};
-use crate::replacing::replace_file;
+use crate::replacing::{Changed, replace_file};
 use crate::restating::{restate_entries, stamps_for};
 use plan_record::spellings;
 use std::fs::OpenFile;
 use std::io::{Read, Seek, Write};
 use std::rt::Files;
 
-/// Replaces a record's file by one with its last entries. The caller must hold the file's lock.
+/// Replaces a record's file by one with its last entries. It keeps its date: no command ran, so an output that is later
+/// was still written by something else. The caller must hold the file's lock.
 fn compact_locked<R: Files + AllocGlobal>(
     rt: &R,
     path: &str,
@@ -30,7 +31,7 @@ where
 {
     file.catch_up(rt.alloc())?;
     let bytes = file.compacted_bytes(rt.alloc())?;
-    replace_file(rt, path, &bytes, &file.metadata()?)
+    replace_file(rt, path, &bytes, &file.metadata()?, Changed::AsBefore)
 }
 
 /// Replaces a record's file by one with its last entries, while no builder appends to it. The caller must hold the
@@ -78,7 +79,7 @@ where
 {
     file.catch_up(rt.alloc())?;
     let bytes = restated_bytes(rt, file, outputs)?;
-    replace_file(rt, path, &bytes, &file.metadata()?)
+    replace_file(rt, path, &bytes, &file.metadata()?, Changed::Now)
 }
 
 /// Replaces a record's file by one with its last entries, restated, while no builder appends to it. The caller must

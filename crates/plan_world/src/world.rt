@@ -11,7 +11,7 @@ ghost use Rattle.plan_world.specs.Shells.{AreTexts};
 use crate::askable::{are_askable, are_rows_askable};
 use crate::begins::{Begins, basis_from, is_later};
 use crate::builder_lock::{BuilderLock, SharedFile, take_lock};
-use crate::depfile::read_depfile;
+use crate::depfile::{names_nothing, read_depfile};
 use crate::ended_entries::EndedEntries;
 use crate::fault::{DeviceFault, OpenFault};
 use crate::ninja_log::NinjaLog;
@@ -470,7 +470,7 @@ where
     }
 
     /// Returns those paths of the last entry of an output that may be in a set, whether or not the entry was ended for
-    /// this build. Returns None if there is no entry, or if it is a start entry or spoilt.
+    /// this build. Returns None if there is no entry, or if it is a start entry, has no paths or is spoilt.
     fn last_among(
         &self,
         alloc: Global,
@@ -483,6 +483,21 @@ where
             Some(entry) => askable_among(alloc, &entry, wanted),
             None => Ok(None),
         }
+    }
+
+    /// Appends a start entry for the path of a depfile that was read, unless it has an entry. If that fails, the edge
+    /// that has it runs once more.
+    fn mark_read(&self, path: &[u8]) {
+        if let Ok(None) = self.last_recorded(path) {
+            let _ = self.begin_file(path);
+        }
+    }
+
+    /// Appends a start entry for a path.
+    fn begin_file(&self, path: &[u8]) -> Result<(), DeviceFault> {
+        let mut record = self.record.lock(&self.rt);
+        self.read_in(&mut record)?.begin(self.rt.alloc(), path)?;
+        Ok(())
     }
 
     /// Checks whether the last entry of an output is a start entry.
@@ -525,7 +540,8 @@ fn if_askable(paths: RowList<u8>) -> Option<RowList<u8>>
     None
 }
 
-/// Returns those paths of an entry that may be in a set. Returns None if it is a start entry or spoilt.
+/// Returns those paths of an entry that may be in a set. Returns None if it is a start entry, has no paths or is
+/// spoilt.
 fn askable_among(
     alloc: Global,
     entry: &Entry,
@@ -648,6 +664,11 @@ where
         }
     }
 
+    /// Returns None if this builder doesn't hold the lock, or may not write its file.
+    fn now(&self) -> Option<u64> {
+        self.lock.now()
+    }
+
     fn is_file(&self, path: &[u8]) -> bool {
         is_file(&self.rt, path)
     }
@@ -696,8 +717,14 @@ where
         self.start(command, console, outputs)
     }
 
-    fn read_depfile(&self, _number: u64, path: &[u8]) -> Result<Reply, AllocError> {
-        read_depfile(&self.rt, path)
+    /// By the stricter rule, a depfile that is missing or names nothing has a start entry, once an edge has read it:
+    /// the entry of that edge has no paths, and doesn't say so by itself. No edge asks under the number 0.
+    fn read_depfile(&self, number: u64, path: &[u8]) -> Result<Reply, AllocError> {
+        let reply = read_depfile(&self.rt, path)?;
+        if number > 0 && self.begins.is_some() && names_nothing(self.rt.alloc(), &reply)? {
+            self.mark_read(path);
+        }
+        Ok(reply)
     }
 
     fn keep(

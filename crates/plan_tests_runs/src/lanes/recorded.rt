@@ -9,20 +9,21 @@ use std::alloc::{AllocError, Global};
 use std::process::Abort;
 use std::test::*;
 
-/// A world with one entry, of the output `out`, which names `a` and `b`. Its record has the stamp 7. Each output was
-/// last made by the edge of `out`. An entry can be ended only without a reason. The first command began at 9, and there
-/// is one folder, `a`.
+/// A world with an entry of the output `out`, which names `a` and `b`, and one of `alone`, which names nothing. Its
+/// record has the stamp 7. Each output was last made by the edge of `out`. An entry can be ended only without a reason.
+/// The first command began at 9, it is 11 now, and there is one folder, `a`.
 #[derive(Drop)]
 struct Remembers {
     alloc: Global,
 }
 
-/// Returns an entry that names `a` and `b`.
-fn entry_of_two(alloc: Global) -> Result<Reply, AllocError> {
+/// Returns an entry that names these paths.
+fn entry_of(alloc: Global, names: &[&[u8]]) -> Result<Reply, AllocError> {
     let command = Words::of(alloc, b"true")?;
     let mut paths = RowList::new(alloc);
-    paths.push(b"a")?;
-    paths.push(b"b")?;
+    for name in names {
+        paths.push(*name)?;
+    }
     let paths = PathList::new(alloc, paths)?;
     Ok(Reply::Entry(Recorded::new(alloc, command, 1, paths)?))
 }
@@ -46,7 +47,10 @@ impl World for Remembers {
 
     fn recall(&self, _number: u64, output: &[u8]) -> Result<Reply, AllocError> {
         if output == b"out".as_slice() {
-            return entry_of_two(self.alloc);
+            return entry_of(self.alloc, &[b"a", b"b"]);
+        }
+        if output == b"alone".as_slice() {
+            return entry_of(self.alloc, &[]);
         }
         Ok(Reply::Nothing)
     }
@@ -57,6 +61,10 @@ impl World for Remembers {
 
     fn first_begin(&self) -> Option<u64> {
         Some(9)
+    }
+
+    fn now(&self) -> Option<u64> {
+        Some(11)
     }
 
     fn is_file(&self, path: &[u8]) -> bool {
@@ -102,7 +110,7 @@ impl World for Remembers {
     }
 }
 
-/// Checks that a world finds the recorded path `b` of the output `out`, and no entry of another output.
+/// Checks that a world finds the recorded path `b` of the output `out`, and no entry with paths of another output.
 fn finds_recorded<W: World>(rt: &impl Abort, alloc: Global, world: &W) -> Result<(), AllocError> {
     let mut wanted = PathFilter::new(alloc, 1)?;
     wanted.add(b"b");
@@ -114,6 +122,7 @@ fn finds_recorded<W: World>(rt: &impl Abort, alloc: Global, world: &W) -> Result
         None => panic!(rt; "no entry"),
     }
     assert!(rt; world.recorded_among(alloc, b"b", &wanted)?.is_none());
+    assert!(rt; world.recorded_among(alloc, b"alone", &wanted)?.is_none());
     Ok(())
 }
 
@@ -126,6 +135,7 @@ fn says_what_is_recorded<W: World>(
     finds_recorded(rt, alloc, world)?;
     assert_eq!(rt; world.record_stamp(), Some(7));
     assert_eq!(rt; world.first_begin(), Some(9));
+    assert_eq!(rt; world.now(), Some(11));
     assert!(rt; world.is_file(b"a"));
     assert!(rt; !world.is_file(b"b"));
     assert!(rt; world.is_made_with(b"b", b"out")?);

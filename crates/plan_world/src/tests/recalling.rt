@@ -152,15 +152,17 @@ fn wanted_paths_are_found<W: World>(rt: &impl Abort, alloc: Global, world: &W) -
     keeps_paths(rt, alloc, world, b"a", &[b"x", b"y", b"z"])?;
     keeps_paths(rt, alloc, world, b"b", &[b"y", b"\xff"])?;
     keeps_paths(rt, alloc, world, b"d", &[b"x"])?;
+    keeps_paths(rt, alloc, world, b"e", &[])?;
     among_is(rt, alloc, world, b"a", &[b"y"])?;
     no_entry_tells(rt, alloc, world, b"b")?;
     no_entry_tells(rt, alloc, world, b"c")?;
     among_is(rt, alloc, world, b"d", &[])?;
+    no_entry_tells(rt, alloc, world, b"e")?;
     world.forget(b"a", b"")?;
     among_is(rt, alloc, world, b"a", &[b"y"])
 }
 
-/// Checks that the wanted paths of an entry are found, unless the entry is spoilt.
+/// Checks that the wanted paths of an entry are found, unless the entry is spoilt or has no paths.
 #[test]
 fn wanted_paths(rt: HostRuntime) -> Result<(), Fail> {
     let folder = folder(&rt, "wanted_paths")?;
@@ -231,6 +233,36 @@ fn no_first_command(rt: HostRuntime) -> Result<(), Fail> {
     Ok(())
 }
 
+/// Checks that a world knows the time now: not before a file that was just written, and not after one that is written
+/// next. A world that doesn't hold the lock doesn't know it.
+#[test]
+fn time_of_files(rt: HostRuntime) -> Result<(), Fail> {
+    let folder = folder(&rt, "time_of_files")?;
+    let (before, after) = (
+        format!(in rt.alloc(); "{folder}/before")?,
+        format!(in rt.alloc(); "{folder}/after")?,
+    );
+    let world = stricter_world_in(&rt, folder.as_str())?;
+    let outputs = rows(rt.alloc(), &[b"a"])?;
+    start_is(
+        &rt,
+        rt.alloc(),
+        &world,
+        b"sleep 0.05",
+        false,
+        &outputs,
+        "exit 0",
+    )?;
+    fs::write(&rt, before.as_str(), b"b")?;
+    let now = world.now().unwrap_or(0);
+    fs::write(&rt, after.as_str(), b"a")?;
+    assert!(rt; world.stat_ahead(before.as_bytes()).unwrap_or(u64::MAX) <= now);
+    assert!(rt; now <= world.stat_ahead(after.as_bytes()).unwrap_or(0));
+    drop(world);
+    remove(&rt, folder);
+    Ok(())
+}
+
 /// Checks which of a folder, a file in it, a missing file and a path that isn't UTF-8 are files.
 fn files_are<W: World>(
     rt: &impl Abort,
@@ -255,6 +287,46 @@ fn files_and_folders(rt: HostRuntime) -> Result<(), Fail> {
     let folder = folder(&rt, "folders")?;
     let world = world_in(&rt, folder.as_str())?;
     files_are(&rt, rt.alloc(), &world, folder.as_str())?;
+    drop(world);
+    remove(&rt, folder);
+    Ok(())
+}
+
+/// Reads depfiles as a check before a build and as edges. Checks which of them have a start entry then.
+fn read_depfiles<W: World>(
+    rt: &impl Abort,
+    world: &W,
+    depfiles: &[(&[u8], u64, bool)],
+) -> Result<(), Fail> {
+    for (path, number, is_marked) in depfiles {
+        drop(world.read_depfile(*number, *path)?);
+        let reply = world.recall(0, *path)?;
+        assert_eq!(rt; matches!(reply, Reply::Entry(_)), *is_marked);
+        drop(reply);
+    }
+    Ok(())
+}
+
+/// Checks that a depfile which is missing or names nothing has a start entry once an edge has read it.
+#[test]
+fn depfiles_that_were_read(rt: HostRuntime) -> Result<(), Fail> {
+    let folder = folder(&rt, "read_depfiles")?;
+    let (missing, none, some) = (
+        format!(in rt.alloc(); "{folder}/missing")?,
+        format!(in rt.alloc(); "{folder}/none")?,
+        format!(in rt.alloc(); "{folder}/some")?,
+    );
+    fs::write(&rt, none.as_str(), b"a:\n")?;
+    fs::write(&rt, some.as_str(), b"a: b\n")?;
+    let world = stricter_world_in(&rt, folder.as_str())?;
+    let depfiles = [
+        (missing.as_bytes(), 0, false),
+        (none.as_bytes(), 0, false),
+        (missing.as_bytes(), 1, true),
+        (none.as_bytes(), 1, true),
+        (some.as_bytes(), 1, false),
+    ];
+    read_depfiles(&rt, &world, &depfiles)?;
     drop(world);
     remove(&rt, folder);
     Ok(())

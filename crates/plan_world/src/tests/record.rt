@@ -1,7 +1,11 @@
 //! Records of builds.
 
 use super::*;
-use crate::{OpenFault, recompact, recorded_outputs, restat};
+use crate::{OpenFault, recompact, recorded_outputs, recorded_paths, restat};
+use plan_text::PathFilter;
+use std::fs::{FileTimes, OpenOptions};
+use std::os::unix::fs::MetadataExt;
+use std::time::{Duration, UNIX_EPOCH};
 
 /// Returns why a record can't be opened, or `None` if it can.
 fn open_fault(rt: &HostRuntime, record: &str) -> Result<Option<OpenFault>, Fail> {
@@ -287,6 +291,77 @@ fn long_record_is_lost(rt: HostRuntime) -> Result<(), Fail> {
     fs::create_dir(&rt, record.as_str())?;
     is_lost(&rt, rt.alloc(), &world)?;
     drop(world);
+    remove(&rt, folder);
+    Ok(())
+}
+
+/// Gives a file an old date.
+fn date_back(rt: &HostRuntime, path: &str) -> Result<(), Fail> {
+    let file = OpenOptions::new().write(true).open(rt, path)?;
+    let date = UNIX_EPOCH + Duration::from_millis(1_000_500);
+    file.set_times(FileTimes::new().set_modified(date))?;
+    Ok(())
+}
+
+/// Checks whether a file has that old date.
+fn is_dated_back(rt: &HostRuntime, path: &str) -> Result<bool, Fail> {
+    let found = fs::metadata(rt, path)?;
+    Ok((found.mtime(), found.mtime_nsec()) == (1_000, 500_000_000))
+}
+
+/// Checks that a record that is compacted keeps its date, and that one whose entries are restated doesn't.
+#[test]
+fn dates_of_rewritten_records(rt: HostRuntime) -> Result<(), Fail> {
+    let folder = folder(&rt, "dates_of_records")?;
+    let record = format!(in rt.alloc(); "{folder}/record")?;
+    write_entries(&rt, record.as_str(), 2)?;
+    date_back(&rt, record.as_str())?;
+    recompact(&rt, record.as_str())?;
+    has_entries(&rt, record.as_str(), 1)?;
+    assert!(rt; is_dated_back(&rt, record.as_str())?);
+    restat(&rt, record.as_str(), &[])?;
+    assert!(rt; !is_dated_back(&rt, record.as_str())?);
+    remove(&rt, folder);
+    Ok(())
+}
+
+/// Keeps an entry of `a`, which names `x` and `y`, and one of `b`, which names `z`, and begins `b` again.
+fn keeps_and_begins<R: Files + Print + Eprint + Wait + AllocGlobal, S: Shells>(
+    rt: &impl Abort,
+    alloc: Global,
+    world: &RealWorld<R, S>,
+) -> Result<(), Fail>
+where
+    R::File: Read + Write + Seek + OpenFile + SharedFile + Drop,
+{
+    let paths = PathList::new(alloc, rows(alloc, &[b"x", b"y"])?)?;
+    keep_is(rt, alloc, world, b"a", &paths, "kept")?;
+    let paths = PathList::new(alloc, rows(alloc, &[b"z"])?)?;
+    keep_is(rt, alloc, world, b"b", &paths, "kept")?;
+    let outputs = rows(alloc, &[b"b"])?;
+    start_is(rt, alloc, world, b"true", false, &outputs, "exit 0")
+}
+
+/// Checks that the wanted paths of entries are listed, except those of commands that didn't end.
+#[test]
+fn paths_of_a_record(rt: HostRuntime) -> Result<(), Fail> {
+    let folder = folder(&rt, "paths_of_a_record")?;
+    let record = format!(in rt.alloc(); "{folder}/record")?;
+    let outputs = rows(rt.alloc(), &[b"b", b"c", b"a"])?;
+    let mut wanted = PathFilter::new(rt.alloc(), 2)?;
+    wanted.add(b"y");
+    wanted.add(b"z");
+    assert_eq!(rt;
+        recorded_paths(&rt, record.as_str(), &outputs, &wanted)?.len(),
+        0
+    );
+    assert!(rt; !fs::exists(&rt, record.as_str())?);
+    let world = world_in(&rt, folder.as_str())?;
+    keeps_and_begins(&rt, rt.alloc(), &world)?;
+    drop(world);
+    let found = recorded_paths(&rt, record.as_str(), &outputs, &wanted)?;
+    assert_eq!(rt; found.len(), 1);
+    assert_eq!(rt; found.row(0), b"y".as_slice());
     remove(&rt, folder);
     Ok(())
 }
