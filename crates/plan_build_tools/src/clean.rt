@@ -2,16 +2,18 @@
 
 use crate::fault::{ToolFault, fault_of};
 use crate::loaded::{Loaded, load_manifest};
+use crate::path_lists::{set_of, without};
 use crate::paths::paths_named;
 use crate::words::Request;
 use indexmap::IndexMap;
 use plan_graph::Graph;
 use plan_printing::{Buffer, REFUSED, Standard, complain_of, concatenate, reason_of};
-use plan_text::{RowList, Sink, write_all};
+use plan_scope::Manifest;
+use plan_text::{PathFilter, RowList, Sink, write_all};
 use plan_tools::{
     command_edges, dead_outputs, edges_of_paths, edges_of_rules, files_of_edges, needed_paths,
 };
-use std::alloc::Global;
+use std::alloc::{AllocError, Global};
 use std::io::{self, ErrorKind};
 use std::rt::Files;
 use std::{fs, str};
@@ -129,34 +131,54 @@ fn batches_in<R: Files + Eprint + AllocGlobal>(
     batches_in_manifest(rt.alloc(), &loaded, request)
 }
 
-/// Returns the given outputs that no build line of a graph names.
-fn dead_in_graph(
+/// Returns the depfiles of edges that may be in a set.
+fn depfiles_among(
     alloc: Global,
-    graph: &Graph<'_>,
-    outputs: &RowList<u8>,
-) -> Result<Batch, ToolFault> {
-    Ok(Batch {
-        heading: Vec::new(alloc),
-        files: dead_outputs(alloc, graph, outputs)?,
-    })
+    manifest: &Manifest,
+    wanted: &PathFilter,
+) -> Result<RowList<u8>, AllocError> {
+    let mut found = RowList::new(alloc);
+    for number in 0..manifest.edges.len() {
+        let depfile = manifest.edges.edge(number).depfile().join(alloc)?;
+        if wanted.may_have(depfile.as_slice()) {
+            found.push(depfile.as_slice())?;
+        }
+    }
+    Ok(found)
 }
 
-/// Returns the given outputs that no build line of a manifest names.
+/// Returns those files that are no depfile of an edge.
+fn without_depfiles(
+    alloc: Global,
+    manifest: &Manifest,
+    files: &RowList<u8>,
+) -> Result<RowList<u8>, ToolFault> {
+    let wanted = set_of(alloc, files)?;
+    let depfiles = depfiles_among(alloc, manifest, &wanted)?;
+    without(alloc, files, &depfiles)
+}
+
+/// Returns the given outputs that a manifest doesn't name, neither in a build line nor as a depfile.
 fn dead_in_manifest(
     alloc: Global,
     loaded: &Loaded,
     outputs: &RowList<u8>,
-) -> Result<Batch, ToolFault> {
+) -> Result<RowList<u8>, ToolFault> {
     let graph = loaded.graph(alloc)?;
-    dead_in_graph(alloc, &graph, outputs)
+    let dead = dead_outputs(alloc, &graph, outputs)?;
+    without_depfiles(alloc, &loaded.manifest, &dead)
 }
 
-/// Returns the given outputs that no build line of the manifest at a path names.
-fn dead_in<R: Files + Eprint + AllocGlobal>(
+/// Returns the given outputs that the manifest at a path doesn't name, neither in a build line nor as a depfile, in
+/// their order.
+///
+/// # Errors
+/// If the manifest is refused or memory runs out.
+pub fn dead_files<R: Files + Eprint + AllocGlobal>(
     rt: &R,
     manifest: &[u8],
     outputs: &RowList<u8>,
-) -> Result<Batch, ToolFault> {
+) -> Result<RowList<u8>, ToolFault> {
     let loaded = load_manifest(rt, manifest)?;
     dead_in_manifest(rt.alloc(), &loaded, outputs)
 }
@@ -343,17 +365,16 @@ pub fn clean<R: Files + Print + Eprint + AllocGlobal, E: Print>(
     remove_printing(rt, errors, manner, &batches)
 }
 
-/// Removes each of these outputs that no build line names. Returns the exit status.
+/// Removes each of these files. Returns the exit status.
 ///
 /// # Errors
-/// Like `clean`.
-pub fn clean_dead<R: Files + Print + Eprint + AllocGlobal, E: Print>(
+/// If memory runs out or standard output can't be written. Then files may have been removed.
+pub fn remove_files<R: Files + Print + Eprint + AllocGlobal, E: Print>(
     rt: &R,
     errors: &E,
-    manifest: &[u8],
     manner: Manner,
-    outputs: &RowList<u8>,
+    files: RowList<u8>,
 ) -> Result<u8, ToolFault> {
-    let batch = dead_in(rt, manifest, outputs)?;
-    remove_printing(rt, errors, manner, &[batch])
+    let heading = Vec::new(rt.alloc());
+    remove_printing(rt, errors, manner, &[Batch { heading, files }])
 }

@@ -14,6 +14,7 @@ mod clean;
 mod fault;
 mod listing;
 mod loaded;
+mod path_lists;
 mod paths;
 mod record;
 mod tool;

@@ -1,13 +1,14 @@
 //! The tools that read or change the record of builds.
 
-use crate::clean::{Manner, clean_dead};
+use crate::clean::{Manner, dead_files, remove_files};
 use crate::fault::ToolFault;
 use crate::loaded::load_manifest;
+use crate::path_lists::{set_of, without};
 use crate::tool::BuildFiles;
 use plan_printing::file_fault;
 use plan_text::RowList;
-use plan_world::{OpenFault, recompact, recorded_outputs, restat};
-use std::alloc::Global;
+use plan_world::{OpenFault, recompact, recorded_outputs, recorded_paths, restat};
+use std::alloc::{AllocError, Global};
 
 /// Returns the fault of a record that can't be used.
 fn record_fault(alloc: Global, record: &str, fault: OpenFault) -> ToolFault {
@@ -49,7 +50,51 @@ fn outputs_recorded(rt: &HostRuntime, record: &str) -> Result<RowList<u8>, ToolF
     }
 }
 
-/// Removes the outputs in the record that no build line names anymore, and returns the exit status.
+/// Returns the outputs that aren't dead. The dead ones are in the order of the outputs.
+fn living_outputs(
+    alloc: Global,
+    outputs: &RowList<u8>,
+    dead: &RowList<u8>,
+) -> Result<RowList<u8>, AllocError> {
+    let mut living = RowList::new(alloc);
+    let mut met = 0usize;
+    for number in 0..outputs.len() {
+        let output = outputs.row(number);
+        if met < dead.len() && dead.row(met) == output {
+            met += 1;
+        } else {
+            living.push(output)?;
+        }
+    }
+    Ok(living)
+}
+
+/// Returns those dead outputs that no living output was made from, as far as its entry says: a header that was
+/// generated once may be a source file now.
+fn unused(
+    rt: &HostRuntime,
+    record: &str,
+    outputs: &RowList<u8>,
+    dead: &RowList<u8>,
+) -> Result<RowList<u8>, ToolFault> {
+    let alloc = rt.alloc();
+    let living = living_outputs(alloc, outputs, dead)?;
+    let wanted = set_of(alloc, dead)?;
+    match recorded_paths(rt, record, &living, &wanted) {
+        Ok(used) => without(alloc, dead, &used),
+        Err(fault) => Err(record_fault(alloc, record, fault)),
+    }
+}
+
+/// Returns the outputs in the record that no build line names anymore, and that no other output was made from.
+fn dead_in_record(rt: &HostRuntime, files: &BuildFiles<'_>) -> Result<RowList<u8>, ToolFault> {
+    let outputs = outputs_recorded(rt, files.record)?;
+    let dead = dead_files(rt, files.manifest, &outputs)?;
+    unused(rt, files.record, &outputs, &dead)
+}
+
+/// Removes the outputs in the record that no build line names anymore, and returns the exit status. What the last
+/// command of another edge read stays.
 ///
 /// # Errors
 /// If the manifest is refused, the record can't be read, memory runs out, or standard output can't be written.
@@ -59,6 +104,6 @@ pub fn clean_recorded<E: Print>(
     files: BuildFiles<'_>,
     manner: Manner,
 ) -> Result<u8, ToolFault> {
-    let outputs = outputs_recorded(rt, files.record)?;
-    clean_dead(rt, errors, files.manifest, manner, &outputs)
+    let dead = dead_in_record(rt, &files)?;
+    remove_files(rt, errors, manner, dead)
 }
