@@ -95,12 +95,15 @@ def one_reached(builder: str, folder: pathlib.Path) -> None:
 
 
 def dated_ahead(builder: str, folder: pathlib.Path) -> None:
-    """A command dates its output in the future. It runs in each build until then. No other command does."""
-    write(folder, (Edge("r", "cp in r && touch -d '+1 hour' r", "in"), Edge("s", "cp in s", "in")))
+    """A command dates its output in the future. It runs again once that time has come. No other command does."""
+    write(folder, (Edge("r", "cp in r && touch -d '+2 seconds' r", "in"), Edge("s", "cp in s", "in")))
     programs.write({"in": "in\n"}, folder)
     expect("status of the first build", 0, says(builder, folder)[2])
-    for number in range(2):
-        expect(f"build {number} after it", ("[1/1] r\n", "", 0), says(builder, folder))
+    expect("the build after it", NOTHING, says(builder, folder))
+    (folder / "s").write_text("by hand\n")
+    expect("the build after a hand", ("[1/1] s\n", "", 0), says(builder, folder))
+    time.sleep(2)
+    expect("the build after that time", ("[1/1] r\n", "", 0), says(builder, folder))
 
 
 def taken(builder: str, folder: pathlib.Path) -> None:

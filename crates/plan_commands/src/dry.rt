@@ -87,6 +87,10 @@ impl<R: Wait, W: World> World for DryWorld<'_, R, W> {
         self.world.first_begin()
     }
 
+    fn now(&self) -> Option<u64> {
+        self.world.now()
+    }
+
     fn is_file(&self, path: &[u8]) -> bool {
         self.world.is_file(path)
     }

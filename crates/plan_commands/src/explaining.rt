@@ -368,6 +368,10 @@ impl<W: World> World for Explained<'_, W> {
         self.world.first_begin()
     }
 
+    fn now(&self) -> Option<u64> {
+        self.world.now()
+    }
+
     fn is_file(&self, path: &[u8]) -> bool {
         self.world.is_file(path)
     }

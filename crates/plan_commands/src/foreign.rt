@@ -1,17 +1,31 @@
 //! Ends entries that don't count in a build, since something other than their commands made the outputs.
 
+use crate::depfiles::{check_depfile, outputs_beside_depfiles};
 use crate::recorded::first_output;
 use plan_lanes::World;
 use plan_machine::Reply;
 use plan_scope::{EdgeList, EdgeRef, PathRange};
+use plan_text::PathFilter;
 use std::alloc::{AllocError, Global};
+use std::thread::{Threads, join};
 
-/// The time between the last write of the record before this build and the first command of this build, as stamps.
-/// Each command of a builder ends with an entry, so none made an output with a stamp of this time.
+/// The time between the last write of the record before this build and the first command of this build, or now if none
+/// has begun, as stamps. Each command of a builder ends with an entry, so none made an output with a stamp of this
+/// time, unless it gave the output another date than that of its write.
 #[derive(Clone, Copy)]
-struct Pause {
+pub(crate) struct Pause {
     since: u64,
+    /// When the first command began. None if none has begun, or if it isn't known.
     until: Option<u64>,
+}
+
+/// Checks whether a stamp that was read before is of the future. Says no if the time isn't known, or if the clock was
+/// set back to a time before the pause.
+fn is_ahead<W: World>(world: &W, since: u64, stamp: u64) -> bool {
+    match world.now() {
+        Some(now) => (since <= now) & (now < stamp),
+        None => false,
+    }
 }
 
 impl Pause {
@@ -26,13 +40,16 @@ impl Pause {
         }
     }
 
-    /// Checks whether a stamp is of this time.
-    fn has(&self, stamp: u64) -> bool {
-        let is_before = match self.until {
+    /// Checks whether a stamp that was just read is of this time. Asks what time it is only if the stamp is later than
+    /// the begin of the pause.
+    pub(crate) fn has<W: World>(&self, world: &W, stamp: u64) -> bool {
+        if stamp <= self.since {
+            return false;
+        }
+        match self.until {
             Some(until) => stamp < until,
-            None => true,
-        };
-        is_before & (self.since < stamp)
+            None => !is_ahead(world, self.since, stamp),
+        }
     }
 }
 
@@ -46,7 +63,7 @@ fn first_written<'a, W: World>(
     for number in 0..paths.len() {
         let path = paths.path(number);
         if let Some(stamp) = world.stat_ahead(path) {
-            if pause.has(stamp) && world.is_file(path) {
+            if pause.has(world, stamp) && world.is_file(path) {
                 return Some(path);
             }
         }
@@ -70,7 +87,7 @@ fn first_taken<'a, W: World>(
 }
 
 /// Ends the entry of an edge, if there is one. The reason in words begins with a path.
-fn forget<W: World>(
+pub(crate) fn forget<W: World>(
     alloc: Global,
     world: &W,
     first: &[u8],
@@ -128,29 +145,84 @@ fn check_generator<'a, W: World>(world: &W, edge: &EdgeRef<'a>) -> Result<(), Al
     }
 }
 
+/// Ends the entry of an edge if its outputs were written by something else. Returns whether the entry still counts.
+fn check_all_outputs<'a, W: World>(
+    alloc: Global,
+    world: &W,
+    pause: &Option<Pause>,
+    edge: &EdgeRef<'a>,
+) -> Result<bool, AllocError> {
+    if edge.is_generator() {
+        return Ok(true);
+    }
+    let first = first_output(edge);
+    if check_outputs(alloc, world, pause, first, &edge.outputs())? {
+        return check_outputs(alloc, world, pause, first, &edge.implicit_outputs());
+    }
+    Ok(false)
+}
+
 /// Ends the entry of an edge if it doesn't count.
 fn check_edge<'a, W: World>(
     alloc: Global,
     world: &W,
     pause: &Option<Pause>,
+    outputs: &PathFilter,
     edge: &EdgeRef<'a>,
 ) -> Result<(), AllocError> {
     if edge.is_phony() {
         return Ok(());
     }
+    if !check_all_outputs(alloc, world, pause, edge)? {
+        return Ok(());
+    }
+    check_depfile(alloc, world, pause, outputs, edge)?;
     if edge.is_generator() {
         return check_generator(world, edge);
-    }
-    let first = first_output(edge);
-    if check_outputs(alloc, world, pause, first, &edge.outputs())? {
-        check_outputs(alloc, world, pause, first, &edge.implicit_outputs())?;
     }
     Ok(())
 }
 
-/// Ends the entries of edges that don't count in this build: an output was written after the record was last written
-/// and before a command of this build began, or it was last made by the command of another edge. Generators are also
-/// run by hand, so theirs count. But a generator with a depfile and without an entry runs.
+/// What outputs and depfiles are compared with.
+#[derive(Drop)]
+struct Checks {
+    pause: Option<Pause>,
+    /// The outputs of all edges, if a depfile stands for itself.
+    outputs: PathFilter,
+}
+
+impl Checks {
+    /// Asks a world and a manifest for what outputs and depfiles are compared with.
+    fn new<W: World>(alloc: Global, world: &W, edges: &EdgeList) -> Result<Checks, AllocError> {
+        let outputs = outputs_beside_depfiles(alloc, edges)?;
+        let pause = Pause::before(world);
+        Ok(Checks { pause, outputs })
+    }
+
+    /// Ends the entries of those edges from one number up to another one that don't count.
+    fn check<W: World>(
+        &self,
+        alloc: Global,
+        world: &W,
+        edges: &EdgeList,
+        from: usize,
+        to: usize,
+    ) -> Result<(), AllocError> {
+        for number in from..to.min(edges.len()) {
+            let edge = edges.edge(number);
+            check_edge(alloc, world, &self.pause, &self.outputs, &edge)?;
+        }
+        Ok(())
+    }
+}
+
+/// Ends the entries of edges that don't count in this build:
+///
+/// - an output was written after the record was last written and before now, or before a command of this build began,
+///   or it was last made by the command of another edge. Generators are also run by hand, so theirs count.
+/// - a depfile that stands for itself is missing, or something else wrote it and it doesn't suit the entry.
+///
+/// A generator with a depfile and without an entry runs.
 ///
 /// # Errors
 ///
@@ -160,9 +232,28 @@ pub(crate) fn check_entries<W: World>(
     world: &W,
     edges: &EdgeList,
 ) -> Result<(), AllocError> {
-    let pause = Pause::before(world);
-    for number in 0..edges.len() {
-        check_edge(alloc, world, &pause, &edges.edge(number))?;
-    }
-    Ok(())
+    let checks = Checks::new(alloc, world, edges)?;
+    checks.check(alloc, world, edges, 0, edges.len())
+}
+
+/// Ends the entries of edges that don't count in this build like `check_entries`, by two threads.
+///
+/// # Errors
+///
+/// `AllocError` if memory runs out.
+pub(crate) fn check_by_two<R: Threads + Sync, W: World + Send + Sync>(
+    rt: &R,
+    alloc: Global,
+    world: &W,
+    edges: &EdgeList,
+) -> Result<(), AllocError> {
+    let checks = Checks::new(alloc, world, edges)?;
+    let (count, half) = (edges.len(), edges.len() / 2);
+    let (first, second) = join(
+        rt,
+        || checks.check(alloc, world, edges, 0, half),
+        || checks.check(alloc, world, edges, half, count),
+    );
+    first?;
+    second
 }

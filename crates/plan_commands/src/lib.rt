@@ -17,6 +17,7 @@ mod commands;
 mod comparing;
 mod compile_fault;
 mod compiling;
+mod depfiles;
 mod dry;
 mod explaining;
 mod foreign;

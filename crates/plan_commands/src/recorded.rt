@@ -4,8 +4,9 @@ ghost use Rattle.std.specs.Prelude.{◌≡◌, ◌⊎◌, ◌<◌, ◌≤◌, �
 ghost use Rattle.plan_graph.specs.Graph.{IsGraph, max_edges, outputs_of};
 ghost use Rattle.plan_depfile.specs.Depfile.{depfile_of};
 ghost use Rattle.plan_lanes.specs.Recalled.{AreAmong};
-ghost use Rattle.plan_commands.specs.Recorded.{AreRecalled, AreRecorded, AreSome, DependsOn, IsMadeIn, IsNeeded, IsRecalled, IsWaitOf, MayLeaveIn, NamesAmong, name_of, ok_or_none, own_paths, paths_for};
+ghost use Rattle.plan_commands.specs.Recorded.{AreRecalled, AreRecorded, AreSome, DependsOn, IsMadeIn, IsNeeded, IsRecalled, IsWaitOf, MayLeaveIn, NamesAmong, name_of, ok_or_none, own_paths, paths_for, paths_in};
 
+use crate::depfiles::check_unrecorded;
 use plan_graph::{Graph, Wait, cycle_with};
 use plan_lanes::{World, paths_among};
 use plan_machine::{Depfile, Reply};
@@ -23,7 +24,7 @@ fn add_paths<'a>(filter: &mut PathFilter, paths: &PathRange<'a>)
 }
 
 /// Returns the filter of all outputs.
-fn filter_of(alloc: Global, edges: &EdgeList) -> Result<PathFilter, AllocError>
+pub(crate) fn filter_of(alloc: Global, edges: &EdgeList) -> Result<PathFilter, AllocError>
     ensures { IfOk result (λ filter. filter ≡ flat_map outputs_of edges.now) }
 {
     let mut filter = PathFilter::new(alloc, edges.len())?;
@@ -60,7 +61,19 @@ fn named_among(
     }
 }
 
-/// Returns the paths that the depfile of an edge names and that may be outputs.
+/// Returns the paths that the depfile in a reply names and that may be outputs. Returns none if the reply is no
+/// depfile, or one that is refused.
+fn named_in(alloc: Global, reply: Reply, filter: &PathFilter) -> Result<RowList<u8>, AllocError>
+    ensures { IfOk result (λ found. AreAmong filter.now (paths_in reply) found) }
+{
+    match reply {
+        Reply::Bytes(depfile) => named_among(alloc, &depfile, filter),
+        _other => Ok(RowList::new(alloc)),
+    }
+}
+
+/// Returns the paths that the depfile of an edge names and that may be outputs. The edge has no entry with paths: if it
+/// has one, the entry ends if it doesn't suit the depfile.
 fn depfile_paths<'a, W: World>(
     alloc: Global,
     world: &W,
@@ -70,14 +83,13 @@ fn depfile_paths<'a, W: World>(
     ensures { IfOk result (λ found. NamesAmong W.allows filter.now edge.now found) }
 {
     let path = edge.depfile().join(alloc)?;
-    match world.read_depfile(0, path.as_slice())? {
-        Reply::Bytes(depfile) => named_among(alloc, &depfile, filter),
-        _ => Ok(RowList::new(alloc)),
-    }
+    let reply = world.read_depfile(0, path.as_slice())?;
+    check_unrecorded(alloc, world, edge, path.as_slice(), &reply)?;
+    named_in(alloc, reply, filter)
 }
 
 /// Returns the paths that the last command of an edge read and that may be outputs: by its entry, or by its depfile if
-/// there is no entry of a command that ended. Returns none for an edge without a depfile.
+/// there is no entry of a command that ended, or one without paths. Returns none for an edge without a depfile.
 fn recorded_paths<'a, W: World>(
     alloc: Global,
     world: &W,
