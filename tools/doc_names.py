@@ -2,7 +2,8 @@
 
 The numbers and names of docs/using/refusals.md are those of the code, both ways. Words between backticks in docs/
 that look like names of code (`foo_bar`, `FooBar`) occur in crates/, tests/, bench/ or the Makefile. Lines of documents,
-except the rows of tables, and lines of the scripts have at most 120 columns.
+except the rows of tables, and lines of the scripts have at most 120 columns. docs/developing/architecture.md says of
+each crate which crates it uses, as crates.txt does, and the trusted base has just the crates of the kit that are used.
 """
 from __future__ import annotations
 
@@ -11,6 +12,7 @@ import re
 from collections.abc import Iterator
 
 import call_graph
+import over_sources
 
 ROOT = pathlib.Path(__file__).resolve().parent.parent
 WIDTH = 120
@@ -20,6 +22,7 @@ CODE = ("crates/*/src/**/*.rt", "crates/*/specs/**/*.antt", "crates/*/proofs/**/
 NARROW = ("*.md", "docs/**/*.md", "docs/**/*.trace", "tests/**/*.md", "tests/*.py", "tests/lib/*.py",
           "tests/suites/*.py", "tests/real/*.py", "tools/*.py", "tools/*.md", "bench/*.py", "bench/*.md", "crates/*.md")
 FOLDERS = ("crates", "tests", "tools", "bench", "examples")
+DESCRIBED = re.compile(r"^- \*\*(plan_\w+)\*\*(?: \(([^)]*)\))?:", re.MULTILINE)
 LOOKS_LIKE_A_NAME = re.compile(r"[a-z]\w*_\w*[a-z0-9]|[A-Z][a-z0-9]+(?:[A-Z][a-z0-9]*)+")
 
 # Lines that may be wider, by file: tables that can't be broken, and the texts of other tools that scripts write.
@@ -112,6 +115,36 @@ def file_faults() -> Iterator[str]:
         yield from (f"{path.relative_to(ROOT)}: no file {name}" for name in sorted(set(named) - files))
 
 
+def described_crates() -> dict[str, set[str]]:
+    """The crates that architecture.md describes, each with those that it uses, which stand in brackets."""
+    text = (ROOT / "docs/developing/architecture.md").read_text()
+    found = DESCRIBED.findall(text)
+    return {name: set(re.findall(r"\w+", used)) - {"only", "std"} for name, used in found}
+
+
+def trusted_crates(page: str) -> set[str]:
+    """The words of a page behind `kit's crates`, up to the last crate that the trusted base names."""
+    named = (ROOT / "docs" / page).read_text().partition("kit's crates")[2]
+    return set(re.findall(r"\w+", named.partition("byteorder")[0])) | {"byteorder"}
+
+
+def used_of_the_kit() -> set[str]:
+    """The crates of the kit that crates.txt names."""
+    listed = over_sources.crates()
+    return {name for used in listed.values() for name in used} - set(listed)
+
+
+def crate_faults() -> Iterator[str]:
+    """Yields crates of which architecture.md says other than crates.txt, or which the trusted base leaves out."""
+    described = described_crates()
+    for name, used in over_sources.crates().items():
+        if described.get(name, set()) != set(used) and not name.startswith("plan_tests_"):
+            yield f"docs/developing/architecture.md: {name} uses {' '.join(used) or 'no crate'}, as crates.txt says"
+    for page in ("GUARANTEE.md", "developing/promises.md"):
+        for name in sorted(used_of_the_kit() - trusted_crates(page)):
+            yield f"docs/{page}: the trusted base leaves out {name}"
+
+
 def width_faults() -> Iterator[str]:
     for path in (path for pattern in NARROW for path in sorted(ROOT.glob(pattern))):
         name = str(path.relative_to(ROOT))
@@ -129,4 +162,5 @@ def faults() -> Iterator[str]:
     yield from (f"docs/using/refusals.md: {fault}" for fault in fault_faults(text))
     yield from name_faults()
     yield from file_faults()
+    yield from crate_faults()
     yield from width_faults()
