@@ -493,6 +493,19 @@ where
         }
     }
 
+    /// Appends a start entry for the path of a depfile that an edge has read and that is missing or names nothing, if
+    /// this is a world of the stricter rule.
+    fn note_read(&self, number: u64, path: &[u8], reply: &Result<Reply, AllocError>) {
+        if number == 0 || self.begins.is_none() {
+            return;
+        }
+        if let Ok(reply) = reply {
+            if let Ok(true) = names_nothing(self.rt.alloc(), reply) {
+                self.mark_read(path);
+            }
+        }
+    }
+
     /// Appends a start entry for a path.
     fn begin_file(&self, path: &[u8]) -> Result<(), DeviceFault> {
         let mut record = self.record.lock(&self.rt);
@@ -720,11 +733,9 @@ where
     /// By the stricter rule, a depfile that is missing or names nothing has a start entry, once an edge has read it:
     /// the entry of that edge has no paths, and doesn't say so by itself. No edge asks under the number 0.
     fn read_depfile(&self, number: u64, path: &[u8]) -> Result<Reply, AllocError> {
-        let reply = read_depfile(&self.rt, path)?;
-        if number > 0 && self.begins.is_some() && names_nothing(self.rt.alloc(), &reply)? {
-            self.mark_read(path);
-        }
-        Ok(reply)
+        let reply = read_depfile(&self.rt, path);
+        self.note_read(number, path, &reply);
+        reply
     }
 
     fn keep(
