@@ -484,6 +484,8 @@ fn filter_of_paths(rt: HostRuntime) -> Result<(), Fail> {
     assert_eq!(rt; found(&rt, &filter, 1_000, ".cpp.o")?, 1_000);
     assert!(rt; filter.may_have(b"") & filter.may_have(b"a.o"));
     assert!(rt; !filter.may_have(b"b.o"));
-    assert!(rt; found(&rt, &filter, 1_000, ".hpp")? < 100);
+    assert!(rt; found(&rt, &filter, 1_000, ".cc.o")? < 100);
+    assert_eq!(rt; found(&rt, &filter, 1_000, ".hpp")?, 0);
+    assert!(rt; !filter.may_have(b"C") & !filter.may_have(b"o"));
     Ok(())
 }

@@ -5,7 +5,7 @@ use Rattle.std.proofs.lemmas.Bool.{cases_eq}
 use Rattle.std.proofs.lemmas.List.{drop_all, take_all}
 use Rattle.std.proofs.lemmas.List.Elements.{All-push, All-weaker}
 use Rattle.std.proofs.lemmas.Nat.{and_or_apart, and_or_self, pow_apart}
-use Rattle.plan_text.specs.PathFilters.{HasBit, HaveBits, bit_of, hash_of, place_of, with_bit, word_of}
+use Rattle.plan_text.specs.PathFilters.{HasBit, HaveBits, bit_of, place_of, with_bit, word_of}
 
 -- a bit of a word stays set if a bit is set in the word
 bit_stays : (word hash other : ℕ) → bit_and word (bit_of other) ≡ bit_of other → bit_and (bit_or word (bit_of hash)) (bit_of other) ≡ bit_of other
@@ -47,12 +47,13 @@ still_set words hash other within h = by (cases_eq (place_of (length words) othe
         ap (λ (n : ℕ). bit_and n (bit_of other)) word ∙ h
 
 -- each path has its bit after the bit of one more path was set
-pub path_added : (words : List ℕ) (paths : List (List ℕ)) (path : List ℕ) → place_of (length words) (hash_of path) < length words → HaveBits words paths → HaveBits (with_bit words (hash_of path)) (paths ++ path ∷ [])
-path_added words paths path within have =
-    let now : List ℕ = with_bit words (hash_of path) in
-    All-push (λ p. HasBit now (hash_of p)) paths path
-    (All-weaker (λ p. HasBit words (hash_of p)) (λ p. HasBit now (hash_of p)) (λ p h. still_set words (hash_of path) (hash_of p) within h) paths have)
-    (bit_set words (hash_of path) within)
+pub path_added : (hash : List ℕ → ℕ) (words : List ℕ) (paths : List (List ℕ)) (path : List ℕ) → place_of (length words) (hash path) < length words → HaveBits hash words paths
+    → HaveBits hash (with_bit words (hash path)) (paths ++ path ∷ [])
+path_added hash words paths path within have =
+    let now : List ℕ = with_bit words (hash path) in
+    All-push (λ p. HasBit now (hash p)) paths path
+    (All-weaker (λ p. HasBit words (hash p)) (λ p. HasBit now (hash p)) (λ p h. still_set words (hash path) (hash p) within h) paths have)
+    (bit_set words (hash path) within)
 
 -- a vector of which all items were replaced
 all_replaced : (items new : List ℕ) (len : ℕ) → len ≡ length items → length new ≡ length items → take len (new ++ drop (length new) items) ≡ new
@@ -61,17 +62,17 @@ all_replaced items new len a b =
     ∙ ap (take len) (append-nil new)
     ∙ take_all len new (omega (arith, a, b))
 
--- a filter to which a path was added
-pub filter_added : (items lent new : List ℕ) (len : ℕ) (paths more : List (List ℕ)) (path : List ℕ) → len ≡ length items → lent ≡ items → new ≡ with_bit lent (hash_of path) → more ≡ paths ++ path ∷ []
-    → place_of (length lent) (hash_of path) < length lent → (0 < length items) × HaveBits items paths
-    → (0 < length (take len (new ++ drop (length new) items))) × HaveBits (take len (new ++ drop (length new) items)) more
-filter_added items lent new len paths more path long same set put within have =
-    let now : List ℕ = with_bit items (hash_of path) in
-    let is : new ≡ now = set ∙ ap (λ (ws : List ℕ). with_bit ws (hash_of path)) same in
-    let as_long : length now ≡ length items = length-set items (place_of (length items) (hash_of path)) (bit_or (word_of items (hash_of path)) (bit_of (hash_of path))) in
+-- words that have the bits of some paths by a hash, to which a path was added
+pub filter_added : (hash : List ℕ → ℕ) (items lent new : List ℕ) (len : ℕ) (paths more : List (List ℕ)) (path : List ℕ) → len ≡ length items → lent ≡ items → new ≡ with_bit lent (hash path) → more ≡ paths ++ path ∷ []
+    → place_of (length lent) (hash path) < length lent → (0 < length items) × HaveBits hash items paths
+    → (0 < length (take len (new ++ drop (length new) items))) × HaveBits hash (take len (new ++ drop (length new) items)) more
+filter_added hash items lent new len paths more path long same set put within have =
+    let now : List ℕ = with_bit items (hash path) in
+    let is : new ≡ now = set ∙ ap (λ (ws : List ℕ). with_bit ws (hash path)) same in
+    let as_long : length now ≡ length items = length-set items (place_of (length items) (hash path)) (bit_or (word_of items (hash path)) (bit_of (hash path))) in
     let new_long : length new ≡ length items = ap length is ∙ as_long in
     let all : take len (new ++ drop (length new) items) ≡ now = all_replaced items new len long new_long ∙ is in
-    let here : place_of (length items) (hash_of path) < length items = subst (λ (ws : List ℕ). place_of (length ws) (hash_of path) < length ws) same within in
-    let bits : HaveBits now more = subst (HaveBits now) (sym put) (path_added items paths path here have.1) in
+    let here : place_of (length items) (hash path) < length items = subst (λ (ws : List ℕ). place_of (length ws) (hash path) < length ws) same within in
+    let bits : HaveBits hash now more = subst (HaveBits hash now) (sym put) (path_added hash items paths path here have.1) in
     let some = have.0 in
-    (subst (λ (ws : List ℕ). 0 < length ws) (sym all) (omega (arith, as_long, some)), subst (λ (ws : List ℕ). HaveBits ws more) (sym all) bits)
+    (subst (λ (ws : List ℕ). 0 < length ws) (sym all) (omega (arith, as_long, some)), subst (λ (ws : List ℕ). HaveBits hash ws more) (sym all) bits)

@@ -9,7 +9,7 @@ use Rattle.plan_text.specs.Pieces.{escape_bytes, pieces_of, literal_of}
 use Rattle.plan_text.specs.Path.{canonical_of, is_normal}
 use Rattle.plan_text.specs.Lines.{lines_of, raw_lines}
 use Rattle.plan_text.specs.declared.line_reader.Line.{Line}
-use Rattle.plan_text.specs.PathFilters.{HasBit, bit_of, hash_of, number_of, place_of, with_bit}
+use Rattle.plan_text.specs.PathFilters.{HasBit, bit_of, ends_of, hash_of, number_of, place_of, with_bit}
 
 parents_past_the_front : canonical_of (codes "a/../../b//./c/") ≡ Ok (codes "../b/c")
 parents_past_the_front = refl
@@ -178,18 +178,30 @@ parent_is_not_normal = refl
 lines_with_their_newlines : raw_lines (codes "a$" ++ 10 ∷ codes "b" ++ 13 ∷ 10 ∷ codes "c") ≡ record { at = 0; bytes = codes "a$" ++ 10 ∷ codes "b" } ∷ record { at = 6; bytes = codes "c" } ∷ []
 lines_with_their_newlines = refl
 
--- the hash of a path is that of its last sixteen bytes and its length
+-- the hash of a path is that of its last sixteen bytes, or of its halves, and its length
 number_of_a_short_path : number_of (codes "a.o") ≡ 6368879
 unfolding number_of
 number_of_a_short_path = refl
 
-number_of_the_last_bytes : number_of (codes "include/generated/version.h") ≡ number_of (codes "rated/version.h") + 101 * 256 ^ 15
+number_of_both_halves : number_of (codes "lib/a.h12") ≡ 7811882984284252209 * 2 ^ 64 + 7593684016136991026
+unfolding number_of
+number_of_both_halves = refl
+
+number_of_the_last_bytes : number_of (codes "include/generated/version.h") ≡ number_of (codes "erated/version.h")
 unfolding number_of
 number_of_the_last_bytes = refl
 
 hash_of_a_short_path : hash_of (codes "a.o") ≡ 1364984548566109510
 unfolding hash_of number_of
 hash_of_a_short_path = refl
+
+ends_of_a_path : ends_of (codes "a.o") ≡ 7007601222051954688
+unfolding ends_of
+ends_of_a_path = refl
+
+ends_of_an_empty_path : ends_of [] ≡ 0
+unfolding ends_of
+ends_of_an_empty_path = refl
 
 added_path_is_found : HasBit (with_bit (0 ∷ 0 ∷ []) (hash_of (codes "a.o"))) (hash_of (codes "a.o"))
 unfolding hash_of number_of place_of bit_of

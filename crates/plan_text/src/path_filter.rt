@@ -1,33 +1,36 @@
 //! A set of paths that may say too often that a path is in it, and never too seldom.
 
 ghost use Rattle.std.specs.Prelude.{◌≡◌, ◌↔◌, ◌<◌, ◌+◌, ◌*◌, ◌%◌, ◌^◌, ◌++◌, ◌∷◌, [], Contains, IfOk, false, fold, length, true};
-ghost use Rattle.plan_text.specs.PathFilters.{HasBit, bit_of, hash_of, number_of, place_of, with_bit};
+ghost use Rattle.plan_text.specs.PathFilters.{HasBit, bit_of, ends_of, hash_of, number_of, place_of, with_bit};
 
 use crate::ghost_paths::{GhostPaths, GivenPath};
 use std::alloc::{AllocError, Global};
 use std::marker::Model;
 
 /// A set of paths that may say too often that a path is in it, and never too seldom: a Bloom filter with one bit for
-/// each path. A contract sees the list of the paths that were added.
+/// each path, and one for its first and last byte. A contract sees the list of the paths that were added.
 #[derive(Drop)]
 pub struct PathFilter {
-    /// Sixty-four bits each. There is at least one word.
+    /// The bits of hashes, sixty-four each. There is at least one word.
     words: Vec<u64>,
+    /// The bits of first and last bytes, sixty-four each. Most paths differ there from all that were added, and need no
+    /// hash.
+    ends: Vec<u64>,
     added: GhostPaths,
 }
 
 impl Model for PathFilter {
     ghost use Rattle.std.specs.Prelude.{◌<◌, List, ℕ, length};
-    ghost use Rattle.plan_text.specs.PathFilters.{HaveBits};
+    ghost use Rattle.plan_text.specs.PathFilters.{HaveBits, ends_of, hash_of};
 
     ghost Value = { List (List ℕ) };
 
     ghost view = { λ f. f.added.paths };
 
-    ghost invariant = { λ f. (0 < length f.words.items) × HaveBits f.words.items f.added.paths };
+    ghost invariant = { λ f. ((0 < length f.words.items) × HaveBits hash_of f.words.items f.added.paths) × ((0 < length f.ends.items) × HaveBits ends_of f.ends.items f.added.paths) };
 }
 
-/// Returns the bytes of a path of fewer than sixteen bytes as a number of base 256.
+/// Returns the bytes of a path as a number of base 256.
 fn short_number(path: &[u8]) -> u128
     ensures { result ≡ fold (λ n b. n % 2 ^ 120 * 256 + b) 0 path.now }
 {
@@ -38,14 +41,20 @@ fn short_number(path: &[u8]) -> u128
     number
 }
 
-/// Returns the last sixteen bytes of a path as a number of base 256, or all bytes of a shorter path.
+/// Returns the last sixteen bytes of a path as a number of base 256, the first and the last eight of a shorter path, or
+/// all bytes of a path of fewer than eight.
 #[tactic(auto, unfolding(crate::specs::PathFilters::number_of))]
 fn number_of(path: &[u8]) -> u128
     ensures { result ≡ number_of path.now }
 {
-    match path.last_chunk::<16>() {
-        Some(last) => u128::from_be_bytes(*last),
-        None => short_number(path),
+    if let Some(last) = path.last_chunk::<16>() {
+        return u128::from_be_bytes(*last);
+    }
+    match (path.first_chunk::<8>(), path.last_chunk::<8>()) {
+        (Some(first), Some(last)) => {
+            u128::from(u64::from_be_bytes(*first)) << 64 | u128::from(u64::from_be_bytes(*last))
+        }
+        _ => short_number(path),
     }
 }
 
@@ -59,6 +68,20 @@ fn hash_of(path: &[u8]) -> u64
     let low = number % (1 << 64) * 0x87c3_7b91_1142_53d5;
     let sum = high + low + path.len() as u128 * 0x1656_67b1_9e37_79f9;
     (sum % (1 << 64)) as u64
+}
+
+/// Returns the hash of the first and the last byte of a path.
+#[tactic(auto, unfolding(crate::specs::PathFilters::ends_of))]
+fn ends_of(path: &[u8]) -> u64
+    ensures { result ≡ ends_of path.now }
+{
+    match (path.first(), path.last()) {
+        (Some(first), Some(last)) => {
+            let (first, last) = (u64::from(*first), u64::from(*last));
+            first * (1 << 56) + last / 64 * (1 << 54) + last % 64 * (1 << 32)
+        }
+        _ => 0,
+    }
 }
 
 /// Returns the number of the word in which a hash has its bit.
@@ -106,9 +129,12 @@ fn word_count(paths: usize) -> usize
     (paths / 2 + 64).min(1_048_576)
 }
 
+/// The number of words for the ends of paths: a bit for each pair of bytes.
+const ENDS: usize = 1_024;
+
 impl PathFilter {
-    /// Creates an empty set with room for this many paths: 32 bits for each, from 4,096 to 67,108,864 bits. More paths
-    /// may be added, and the answers are then less exact.
+    /// Creates an empty set with room for this many paths: 32 bits for each, from 4,096 to 67,108,864 bits, and 65,536
+    /// bits for the ends of paths. More paths may be added, and the answers are then less exact.
     ///
     /// # Errors
     ///
@@ -118,8 +144,11 @@ impl PathFilter {
     {
         let mut words = Vec::new(alloc);
         words.resize(word_count(paths), 0u64)?;
+        let mut ends = Vec::new(alloc);
+        ends.resize(ENDS, 0u64)?;
         Ok(PathFilter {
             words,
+            ends,
             added: GhostPaths::new(),
         })
     }
@@ -129,6 +158,7 @@ impl PathFilter {
         ensures { self.new ≡ self.old ++ path.now ∷ [] }
     {
         set_bit(&mut self.words, hash_of(path));
+        set_bit(&mut self.ends, ends_of(path));
         self.added = self.added.and(&GivenPath { bytes: path });
     }
 
@@ -136,6 +166,6 @@ impl PathFilter {
     pub fn may_have(&self, path: &[u8]) -> bool
         ensures { result ≡ false → Contains self.now path.now → ⊥ }
     {
-        has_bit(&self.words, hash_of(path))
+        has_bit(&self.ends, ends_of(path)) && has_bit(&self.words, hash_of(path))
     }
 }
