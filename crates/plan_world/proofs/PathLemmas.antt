@@ -1,13 +1,15 @@
 -- Paths gone through one by one, and the names in a path. Serves src/askable.rt, src/recorded.rt and src/shell.rt.
-use Rattle.std.proofs.Common.{◌≡◌, ◌+◌, ◌<◌, ◌≤◌, ◌⊎◌, ℕ, Bool, true, false, List, [], ◌∷◌, ◌++◌, length, None, inl, inr, refl, sym, ap, subst, ◌∙◌, arith, cond, slice_get, suc, zero, not, ◌||◌}
+use Rattle.std.proofs.Common.{◌≡◌, ◌+◌, ◌<◌, ◌≤◌, ◌⊎◌, ℕ, Bool, true, false, List, [], ◌∷◌, ◌++◌, length, None, inl, inr, refl, sym, ap, subst, ◌∙◌, arith, cond, slice_get, suc, zero, not, ◌||◌, ◌-◌, take, drop}
 use Rattle.std.specs.Prelude.{◌==◌, ◌&&◌, All, get_or, nat_lt}
 use Rattle.std.specs.List.{list_all, list_any, onto_first, position_or_len}
 use Rattle.plan_text.specs.Path.{components_of}
 use Rattle.plan_world.specs.Askable.{IsAskable, is_name, is_plain_byte}
 use Rattle.std.proofs.Math.Dec.{eqb-suc-zero}
 use Rattle.std.proofs.lemmas.Bool.{cases_order, le-leb, ltb-true}
-use Rattle.std.proofs.lemmas.List.{append-nil}
+use Rattle.std.proofs.Math.Seq.{take-add}
+use Rattle.std.proofs.lemmas.List.{append-nil, take-append-drop}
 use Rattle.std.proofs.lemmas.List.Elements.{All-cons, All-nil}
+use Rattle.std.proofs.lemmas.List.Folds.{list_all-append}
 use Rattle.std.proofs.lemmas.Str.{IsUtf8-from_ascii}
 use Rattle.std.proofs.lemmas.Str.Ascii.{IsAscii-from_all}
 
@@ -146,3 +148,35 @@ plain_is_askable path le h = record {
   short = omega (arith, le);
   names = short_names path le;
 }
+
+-- ---- the ends of a short path
+
+-- what is in both parts counts once
+once : (front middle back : Bool) → ((front && middle) && (middle && back)) ≡ (front && (middle && back))
+once true true back = refl
+once true false back = refl
+once false middle back = refl
+
+-- the first and the last eight bytes are all bytes of a path of 8 to 16 bytes
+pub all_of_ends : (path : List ℕ) → 8 ≤ length path → length path ≤ 16
+    → (list_all is_plain_byte (take 8 path) && list_all is_plain_byte (drop (length path - 8) path)) ≡ list_all is_plain_byte path
+all_of_ends path least most =
+    let count : ℕ = length path - 8 in
+    let front : List ℕ = take count path in
+    let middle : List ℕ = take (8 - count) (drop count path) in
+    let back : List ℕ = drop (8 - count) (drop count path) in
+    let some : 8 ≡ count + (8 - count) = omega (arith, least, most) in
+    let first : take 8 path ≡ front ++ middle = ap (λ (n : ℕ). take n path) some ∙ take-add count (8 - count) path in
+    let last : drop count path ≡ middle ++ back = sym (take-append-drop (8 - count) (drop count path)) in
+    let whole : path ≡ front ++ drop count path = sym (take-append-drop count path) in
+    let of_first : list_all is_plain_byte (take 8 path) ≡ (list_all is_plain_byte front && list_all is_plain_byte middle) =
+    ap (list_all is_plain_byte) first ∙ list_all-append is_plain_byte front middle in
+    let of_last : list_all is_plain_byte (drop count path) ≡ (list_all is_plain_byte middle && list_all is_plain_byte back) =
+    ap (list_all is_plain_byte) last ∙ list_all-append is_plain_byte middle back in
+    let of_whole : list_all is_plain_byte path ≡ (list_all is_plain_byte front && list_all is_plain_byte (drop count path)) =
+    ap (list_all is_plain_byte) whole ∙ list_all-append is_plain_byte front (drop count path) in
+    ap (λ (b : Bool). b && list_all is_plain_byte (drop count path)) of_first
+    ∙ ap (λ (b : Bool). (list_all is_plain_byte front && list_all is_plain_byte middle) && b) of_last
+    ∙ once (list_all is_plain_byte front) (list_all is_plain_byte middle) (list_all is_plain_byte back)
+    ∙ ap (λ (b : Bool). list_all is_plain_byte front && b) (sym of_last)
+    ∙ sym of_whole

@@ -55,7 +55,8 @@ fn is_plain_byte(byte: u8) -> bool
 
 /// Checks whether each byte of a path is an ASCII character other than NUL. Looks at all of them, so that a processor
 /// can compare many bytes at once.
-fn is_plain(path: &[u8]) -> bool
+#[inline(always)]
+fn is_long_plain(path: &[u8]) -> bool
     ensures { result ≡ list_all is_plain_byte path.now }
 {
     let mut plain = true;
@@ -63,6 +64,20 @@ fn is_plain(path: &[u8]) -> bool
         plain = plain & is_plain_byte(*byte);
     }
     plain
+}
+
+/// Checks whether each byte of a path is an ASCII character other than NUL. The first and the last eight bytes are all
+/// bytes of most short paths.
+#[tactic(auto, using(crate::proofs::PathLemmas::all_of_ends))]
+fn is_plain(path: &[u8]) -> bool
+    ensures { result ≡ list_all is_plain_byte path.now }
+{
+    if path.len() <= 16 {
+        if let (Some(first), Some(last)) = (path.first_chunk::<8>(), path.last_chunk::<8>()) {
+            return is_long_plain(first) & is_long_plain(last);
+        }
+    }
+    is_long_plain(path)
 }
 
 /// Checks whether the system can be asked about a path. For any other path the system returns an error, whatever files
