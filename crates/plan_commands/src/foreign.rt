@@ -236,12 +236,32 @@ pub(crate) fn check_entries<W: World>(
     checks.check(alloc, world, edges, 0, edges.len())
 }
 
-/// Ends the entries of edges that don't count in this build like `check_entries`, by two threads.
+/// Ends the entries of those edges from one number up to another one that don't count, by two threads.
+fn check_between<R: Threads + Sync, W: World + Send + Sync>(
+    rt: &R,
+    alloc: Global,
+    world: &W,
+    checks: &Checks,
+    edges: &EdgeList,
+    from: usize,
+    to: usize,
+) -> Result<(), AllocError> {
+    let middle = from.saturating_add(to) / 2;
+    let (first, second) = join(
+        rt,
+        || checks.check(alloc, world, edges, from, middle),
+        || checks.check(alloc, world, edges, middle, to),
+    );
+    first?;
+    second
+}
+
+/// Ends the entries of edges that don't count in this build like `check_entries`, by four threads.
 ///
 /// # Errors
 ///
 /// `AllocError` if memory runs out.
-pub(crate) fn check_by_two<R: Threads + Sync, W: World + Send + Sync>(
+pub(crate) fn check_by_four<R: Threads + Sync, W: World + Send + Sync>(
     rt: &R,
     alloc: Global,
     world: &W,
@@ -251,8 +271,8 @@ pub(crate) fn check_by_two<R: Threads + Sync, W: World + Send + Sync>(
     let (count, half) = (edges.len(), edges.len() / 2);
     let (first, second) = join(
         rt,
-        || checks.check(alloc, world, edges, 0, half),
-        || checks.check(alloc, world, edges, half, count),
+        || check_between(rt, alloc, world, &checks, edges, 0, half),
+        || check_between(rt, alloc, world, &checks, edges, half, count),
     );
     first?;
     second

@@ -14,7 +14,7 @@ ghost use Rattle.plan_commands.specs.Recorded.{AreRecalled, AreRecorded};
 ghost use Rattle.plan_printing.specs.Faults as faults;
 
 use crate::compiling::{FEW_EDGES, graph_and_names, graph_of, image_by, image_with};
-use crate::foreign::{check_by_two, check_entries};
+use crate::foreign::{check_by_four, check_entries};
 use crate::recorded::{needed_inputs, recalled_paths};
 use plan_compile::{EdgeNames, OutOfDateRule, collect_names};
 use plan_graph::{Graph, MAX_EDGES};
@@ -62,7 +62,7 @@ fn recalled_entries<W: World>(
 }
 
 /// Returns the recorded paths of edges like `recalled_entries`, while other threads check the entries.
-fn recalled_by_two<R: Threads + Sync, W: World + Send + Sync>(
+fn recalled_and_checked<R: Threads + Sync, W: World + Send + Sync>(
     rt: &R,
     alloc: Global,
     world: &W,
@@ -74,7 +74,7 @@ fn recalled_by_two<R: Threads + Sync, W: World + Send + Sync>(
     let (recalled, checked) = join(
         rt,
         || recalled_paths(alloc, world, edges),
-        || check_by_two(rt, alloc, world, edges),
+        || check_by_four(rt, alloc, world, edges),
     );
     match checked {
         Ok(()) => recalled,
@@ -116,7 +116,7 @@ fn graph_beside_paths<'a, R: Threads + Sync, W: World + Send + Sync>(
         || -> Result<Vec<Addition>, AllocError>
             requires { IsSync R.row × IsSend W.row × IsSync W.row × (length manifest.now.edges ≤ max_edges) }
             ensures { IfOk result (λ a. AreRecalled W.allows manifest.entry.now.edges a.items) }
-        { recalled_by_two(rt, alloc, world, &manifest.edges) },
+        { recalled_and_checked(rt, alloc, world, &manifest.edges) },
     )
 }
 
