@@ -91,9 +91,9 @@ class Program:
         self.types = {name for source in self.sources.values() for name in source.types}
         self.traits = {function.trait for function in self.functions}
         self.methods: dict[str, list[Function]] = {}
+        self.alone: dict[str, list[Function]] = {}  # functions that are no methods
         for function in self.functions:
-            if function.type:
-                self.methods.setdefault(function.name, []).append(function)
+            (self.methods if function.type else self.alone).setdefault(function.name, []).append(function)
 
     def type_of(self, caller: Function, receiver: re.Match[str]) -> str:
         """The type of a receiver, if it is `self`, a field of it, a parameter, or created by `Type::new`.
@@ -129,7 +129,7 @@ class Program:
 
     def free(self, source: Source, name: str) -> Iterator[Function]:
         """What a name without a dot in front calls."""
-        alone = [function for function in self.functions if function.name == name and not function.type]
+        alone = self.alone.get(name, [])
         here = [function for function in alone if function.file == source.path]
         crate = source.taken.get(name, source.crate)
         yield from here or [function for function in alone if function.crate == crate]
@@ -146,7 +146,7 @@ class Program:
             yield from self.called(caller, method, bounds)
         for type_, name in re.findall(r"\b([A-Z]\w*)(?:::<[^()]*>)?::(\w+)", body):
             owner = caller.type if type_ == "Self" else type_
-            named = [function for function in self.functions if function.name == name and function.type]
+            named = self.methods.get(name, [])
             yield from (function for function in named if function.type == owner)
             if owner not in self.types and bounds:  # a generic type
                 yield from (function for function in named if function.trait)

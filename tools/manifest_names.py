@@ -27,6 +27,7 @@ from __future__ import annotations
 
 import argparse
 import fnmatch
+import functools
 import pathlib
 import re
 import sys
@@ -163,9 +164,31 @@ class Functions:
                     yield f"the program never calls {name} of {crate}"
 
 
+@functools.lru_cache(maxsize=None)
 def rows() -> list[str]:
     """LAYER/NAME of each row."""
     return sorted(f"{row.parent.name}/{row.name}" for row in (ROOT / "tests" / "rows").glob("*/*") if row.is_dir())
+
+
+@functools.lru_cache(maxsize=None)
+def case_names() -> list[str]:
+    """The names of all cases of images."""
+    return list(cases.names())
+
+
+@functools.lru_cache(maxsize=None)
+def build_names() -> list[str]:
+    """The names of all trees that are built."""
+    return list(run_builds.names())
+
+
+@functools.lru_cache(maxsize=None)
+def tests_of(crate: str) -> str:
+    """The sources in which the unit tests of a crate are."""
+    name, tests = re.sub("^plan_", "", crate), "crates/plan_tests_*/src"
+    own = ROOT.glob(f"crates/{crate}/src/**/*.rt")
+    apart = [*ROOT.glob(f"{tests}/{name}.rt"), *ROOT.glob(f"{tests}/{name}/*.rt")]
+    return "".join(path.read_text() for path in (*own, *apart))
 
 
 def fitting(patterns: str, names: Iterable[str]) -> Iterator[tuple[str, set[str]]]:
@@ -175,6 +198,7 @@ def fitting(patterns: str, names: Iterable[str]) -> Iterator[tuple[str, set[str]
         yield pattern, {name for name in names if fnmatch.fnmatchcase(name, whole)}
 
 
+@functools.lru_cache(maxsize=None)
 def edits() -> set[tuple[str, str]]:
     """Crate and name of each must-fail edit."""
     paths = [path for name in ("must_fail", "edits") for path in ROOT.glob(f"tests/{name}/*/*.edit")]
@@ -188,17 +212,13 @@ def faults_of(rule: Rule, functions: Functions) -> Iterator[str]:
     yield from functions.faults(rule, "done")
     yield from functions.faults(rule, "offered")
     yield from (f"no row {pattern}" for pattern, found in fitting(rule.parts.get("rows", ""), rows()) if not found)
-    tried = fitting(rule.parts.get("cases", ""), cases.names())
+    tried = fitting(rule.parts.get("cases", ""), case_names())
     yield from (f"no case {pattern}" for pattern, found in tried if not found)
-    built = fitting(rule.parts.get("builds", ""), run_builds.names())
+    built = fitting(rule.parts.get("builds", ""), build_names())
     yield from (f"no build {pattern}" for pattern, found in built if not found)
     yield from (f"no suite {name}" for name in rule.parts.get("suites", "").split() if name not in suites.NAMES)
     for crate, text in rule.groups("tests"):
-        own = ROOT.glob(f"crates/{crate}/src/**/*.rt")
-        name = re.sub("^plan_", "", crate)
-        tests = "crates/plan_tests_*/src"
-        apart = [*ROOT.glob(f"{tests}/{name}.rt"), *ROOT.glob(f"{tests}/{name}/*.rt")]
-        content = "".join(path.read_text() for path in (*own, *apart))
+        content = tests_of(crate)
         yield from (f"no test {name} in {crate}" for name in re.findall(r"\w+", text) if f"fn {name}(" not in content)
     for crate, _ in rule.groups("examples"):
         if not (ROOT / "crates" / crate / "proofs" / "Rows.antt").is_file():
@@ -223,13 +243,13 @@ def page_faults() -> Iterator[str]:
     nothing: set[str] = set()
     shown = nothing.union(*(names for rule in every for _, names in fitting(rule.parts.get("rows", ""), rows())))
     tried = nothing.union(
-        *(names for rule in every for _, names in fitting(rule.parts.get("cases", ""), cases.names())))
+        *(names for rule in every for _, names in fitting(rule.parts.get("cases", ""), case_names())))
     built = nothing.union(
-        *(names for rule in every for _, names in fitting(rule.parts.get("builds", ""), run_builds.names())))
+        *(names for rule in every for _, names in fitting(rule.parts.get("builds", ""), build_names())))
     guarding = {edit for rule in every for edit in edits_of(rule)}
     yield from (f": the row {name} stands under no rule" for name in rows() if name not in shown)
-    yield from (f": the case {name} stands under no rule" for name in cases.names() if name not in tried)
-    yield from (f": the build {name} stands under no rule" for name in run_builds.names() if name not in built)
+    yield from (f": the case {name} stands under no rule" for name in case_names() if name not in tried)
+    yield from (f": the build {name} stands under no rule" for name in build_names() if name not in built)
     yield from (f": the edit {name} of {crate} stands under no rule" for crate, name in sorted(edits() - guarding))
 
 
