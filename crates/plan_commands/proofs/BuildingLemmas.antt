@@ -9,7 +9,6 @@ use Rattle.plan_scope.specs.Sources.{SameFiles}
 use Rattle.plan_scope.specs.Loading.{FileContents, PathSet, Outcome, Job, MayLoad, is_missing, has_fault, is_read, ends, is_refused, is_added, includes_file, includes_fault, LoadsFirst, IsMissing, more_files}
 use Rattle.plan_scope.specs.declared.manifest.Manifest.{Manifest}
 use Rattle.plan_image.specs.declared.image.Parts.{Parts}
-use Rattle.plan_compile.specs.declared.baseline.OutOfDateRule.TheVariants.{Stricter}
 use Rattle.plan_machine.specs.State.{Status, has_ended, outcome_at}
 use Rattle.plan_machine.specs.Wanted.{any_outside}
 use Rattle.plan_machine.specs.declared.event.Outcome.TheVariants.{Ran}
@@ -21,7 +20,6 @@ use Rattle.plan_lanes.specs.Reports.{IsRunOf}
 use Rattle.plan_lanes.specs.declared.board.Report.{Report}
 use Rattle.plan_lanes.specs.declared.fault.LaneFault.{LaneFault}
 use Rattle.plan_lanes.specs.declared.fault.LaneFault.TheVariants as lanes
-use Rattle.plan_status.specs.Printing.{Prints}
 use Rattle.plan_status.specs.declared.fault.PrintFault.{PrintFault}
 use Rattle.plan_printing.specs.declared.fault.PlanFault.{PlanFault}
 use Rattle.plan_commands.specs.declared.building.Round.{Round}
@@ -29,12 +27,11 @@ use Rattle.plan_commands.specs.declared.building.Round.TheVariants as round
 use Rattle.plan_commands.specs.declared.building.Done.{Done}
 use Rattle.plan_commands.specs.declared.building.Done.TheVariants as done
 use Rattle.plan_commands.specs.Commands.{IsMeant, IsRefused, MayLoad as MayLoads, loading_by}
-use Rattle.plan_commands.specs.Compiling.{IsImageOf}
 use Rattle.plan_commands.specs.Images.{SinkState}
 use Rattle.plan_commands.specs.Showing.{IsShown, Shown}
-use Rattle.plan_commands.specs.Running.{EndsPrinted, LanesStop, lines_in, report_in}
+use Rattle.plan_commands.specs.Running.{EndsPrinted, report_in}
 use Rattle.plan_commands.specs.Targets.{target, targets}
-use Rattle.plan_commands.specs.Building.{Asked, IsRead, Nowhere, opened, maker_of, ok_of, outcome_in, Remakes, Rounds, no_round, one_more, IsUpToDate, MakerFails, FailsToRemake, BuildsTargets, Builds, EndsAs, most_rounds, IsNotRead, IsImageRecorded, LacksRecorded, RefusesRecorded, LacksMemory, RunStops, IsNotRun, RoundStops, TargetsStop, Stops, IsLost, IsRoundOf, EndsRound, HasRunNothing, RunsTargets}
+use Rattle.plan_commands.specs.Building.{Asked, IsRead, Nowhere, opened, maker_of, ok_of, outcome_in, Rounds, no_round, one_more, IsUpToDate, FailsToRemake, BuildsTargets, Builds, EndsAs, most_rounds, IsNotRead, IsImageRecorded, LacksRecorded, RefusesRecorded, LacksMemory, RunStops, IsNotRun, RoundStops, TargetsStop, Stops, IsLost, IsRoundOf, EndsRound, HasRunNothing, RunsTargets}
 use Rattle.plan_commands.proofs.TargetLemmas.{all_inside}
 
 -- ---- the manifest is read

@@ -22,7 +22,7 @@ use Rattle.plan_graph.specs.Graph.{IsGraph, all_waits, outputs_of, producer_from
 use Rattle.plan_graph.specs.declared.further_waits.Wait.{Wait}
 use Rattle.plan_graph.specs.declared.graph_data.Graph.{Graph}
 use Rattle.plan_lanes.specs.Journals.{Rule}
-use Rattle.plan_commands.specs.Recorded.{AreRecalled, AreRecorded, AreSome, DependsOn, IsMadeElsewhere, IsMadeIn, IsNeeded, IsOrderOnly, IsRecalled, IsRecorded, IsWaitOf, MayLeave, MayLeaveIn, NamesAmong, NamesOutput, directly, through, own_paths, paths_for}
+use Rattle.plan_commands.specs.Recorded.{AreRecalled, AreRecalledBetween, AreRecorded, AreSome, DependsOn, IsMadeElsewhere, IsMadeIn, IsNeeded, IsOrderOnly, IsRecalled, IsRecalledFrom, IsRecorded, IsWaitOf, MayLeave, MayLeaveIn, NamesAmong, NamesOutput, directly, through, own_paths, paths_for}
 
 -- ---- makers
 
@@ -133,19 +133,53 @@ in_paths_for e (x ∷ xs) a path (suc k) lt at is h = Contains-append_right (own
 
 -- ---- the paths that entries name
 
--- The paths of the edges before edge n.
-pub record AreRecalledTo (rule : Rule) (edges : List Edge) (n : ℕ) (additions : List Addition) : Type 0 where
-  pub only : All (IsRecalled n) additions
-  pub each : (e : ℕ) (edge : Edge) → e < n → slice_get edges e ≡ Some edge → IsRecorded rule edges e edge (paths_for e additions)
+pub none_recalled : (rule : Rule) (edges : List Edge) (n : ℕ) → AreRecalledBetween rule edges n n []
+none_recalled rule edges n = record { only = All-nil (IsRecalledFrom n n); each = λ e edge least lt at. absurd (omega (arith, least, lt)) }
 
-pub none_recalled : (rule : Rule) (edges : List Edge) → AreRecalledTo rule edges 0 []
-none_recalled rule edges = record { only = All-nil (IsRecalled 0); each = λ e edge lt at. absurd (omega (arith, lt)) }
-
-pub all_recalled : (rule : Rule) (edges : List Edge) (n : ℕ) (additions : List Addition) → n ≡ length edges → AreRecalledTo rule edges n additions → AreRecalled rule edges additions
+pub all_recalled : (rule : Rule) (edges : List Edge) (n : ℕ) (additions : List Addition) → n ≡ length edges → AreRecalledBetween rule edges 0 n additions → AreRecalled rule edges additions
 all_recalled rule edges n additions is h = record {
-  only = subst (λ (m : ℕ). All (IsRecalled m) additions) is h.only;
-  each = λ e edge at. h.each e edge (let lt = slice_get_within edges e edge at in omega (arith, lt, is)) at;
+  only = subst (λ (m : ℕ). All (IsRecalled m) additions) is (All-weaker (IsRecalledFrom 0 n) (IsRecalled n) (λ x p. p.1) additions h.only);
+  each = λ e edge at. h.each e edge (omega arith) (let lt = slice_get_within edges e edge at in omega (arith, lt, is)) at;
 }
+
+-- No edge below n gains paths by additions to edges from n on.
+none_below : (e from to : ℕ) (xs : List Addition) → e < from → All (IsRecalledFrom from to) xs → paths_for e xs ≡ []
+none_below e from to [] lt h = refl
+none_below e from to (x ∷ xs) lt h =
+    let first : IsRecalledFrom from to x = h 0 x (omega arith) in
+    ap (λ (l : List Text). l ++ paths_for e xs) (own_other e x (λ is. omega (arith, first.0, lt, is)))
+    ∙ none_below e from to xs lt (λ k d within. h (suc k) d (omega (arith, within)))
+
+paths_append : (e : ℕ) (xs ys : List Addition) → paths_for e (xs ++ ys) ≡ paths_for e xs ++ paths_for e ys
+paths_append e [] ys = refl
+paths_append e (x ∷ xs) ys = ap (λ (l : List Text). own_paths e x ++ l) (paths_append e xs ys) ∙ sym (append_assoc (own_paths e x) (paths_for e xs) (paths_for e ys))
+
+-- The paths of two ranges of edges, one after the other.
+pub both_recalled : (rule : Rule) (edges : List Edge) (from middle to : ℕ) (xs ys : List Addition) → from ≤ middle → middle ≤ to
+    → AreRecalledBetween rule edges from middle xs → AreRecalledBetween rule edges middle to ys → AreRecalledBetween rule edges from to (xs ++ ys)
+both_recalled rule edges from middle to xs ys least most h k = record { only = every; each = λ e edge low high at. elim (cases_lt e middle) [ inl below ↦ first e edge low below at | inr not ↦ second e edge (omega (arith, not)) high at ] }
+  where
+    every : All (IsRecalledFrom from to) (xs ++ ys)
+    every = All-append (IsRecalledFrom from to) xs ys
+        (All-weaker (IsRecalledFrom from middle) (IsRecalledFrom from to) (λ x p. (p.0, (omega (arith, p.1.0, most), p.1.1, p.1.2))) xs h.only)
+        (All-weaker (IsRecalledFrom middle to) (IsRecalledFrom from to) (λ x p. (omega (arith, p.0, least), p.1)) ys k.only)
+
+    first : (e : ℕ) (edge : Edge) → from ≤ e → e < middle → slice_get edges e ≡ Some edge → IsRecorded rule edges e edge (paths_for e (xs ++ ys))
+    first e edge low below at =
+        let none : paths_for e ys ≡ [] = none_below e middle to ys below k.only in
+        let now : paths_for e (xs ++ ys) ≡ paths_for e xs = paths_append e xs ys ∙ ap (λ (l : List Text). paths_for e xs ++ l) none ∙ append-nil (paths_for e xs) in
+        subst (λ (l : List Text). IsRecorded rule edges e edge l) (sym now) (h.each e edge low below at)
+
+    second : (e : ℕ) (edge : Edge) → middle ≤ e → e < to → slice_get edges e ≡ Some edge → IsRecorded rule edges e edge (paths_for e (xs ++ ys))
+    second e edge low high at =
+        let none : paths_for e xs ≡ [] = none_for e middle xs low (All-weaker (IsRecalledFrom from middle) (IsRecalled middle) (λ x p. p.1) xs h.only) in
+        let now : paths_for e (xs ++ ys) ≡ paths_for e ys = paths_append e xs ys ∙ ap (λ (l : List Text). l ++ paths_for e ys) none in
+        subst (λ (l : List Text). IsRecorded rule edges e edge l) (sym now) (k.each e edge low high at)
+
+pub halves_recalled : (rule : Rule) (edges : List Edge) (half count : ℕ) (xs ys all : List Addition) → AreRecalledBetween rule edges 0 half xs → AreRecalledBetween rule edges half count ys
+    → all ≡ xs ++ ys → half ≤ count → count ≡ length edges → AreRecalled rule edges all
+halves_recalled rule edges half count xs ys all h k is order every =
+    subst (AreRecalled rule edges) (sym is) (all_recalled rule edges count (xs ++ ys) every (both_recalled rule edges 0 half count xs ys (omega arith) order h k))
 
 -- The paths of an entry that are outputs are all that an edge may need.
 recorded_of : (rule : Rule) (edges : List Edge) (e : ℕ) (edge : Edge) (paths : List Text) → ((edge.depfile ≡ []) × (paths ≡ [])) ⊎ NamesAmong rule (flat_map outputs_of edges) edge paths → IsRecorded rule edges e edge paths
@@ -166,36 +200,37 @@ recorded_of rule edges e edge paths (inr h) =
     by_maker q i None is = inr (λ w made other. let clash : None ≡ Some w = sym is ∙ made in cc)
     by_maker q i (Some w) is = inl (h.2.all q i (made_is_output edges q w is))
 
-pub recalled_more : (rule : Rule) (edges : List Edge) (n : ℕ) (edge : Edge) (a : Addition) (old new : List Addition) → slice_get edges n ≡ Some edge → a.edge ≡ n → a.outputs ≡ [] → a.inputs ≡ []
+pub recalled_more : (rule : Rule) (edges : List Edge) (from n : ℕ) (edge : Edge) (a : Addition) (old new : List Addition) → from ≤ n → slice_get edges n ≡ Some edge → a.edge ≡ n → a.outputs ≡ [] → a.inputs ≡ []
     → ((edge.depfile ≡ []) × (a.order_only ≡ [])) ⊎ NamesAmong rule (flat_map outputs_of edges) edge a.order_only
     → ((e : ℕ) → paths_for e new ≡ paths_for e old ++ own_paths e a) → (new ≡ old) ⊎ (new ≡ old ++ a ∷ [])
-    → AreRecalledTo rule edges n old → AreRecalledTo rule edges (n + 1) new
-recalled_more rule edges n edge a old new at is outputs inputs recalled paths added h = record { only = only_more added; each = each_more }
+    → AreRecalledBetween rule edges from n old → AreRecalledBetween rule edges from (n + 1) new
+recalled_more rule edges from n edge a old new least at is outputs inputs recalled paths added h = record { only = only_more added; each = each_more }
   where
-    wider : All (IsRecalled (n + 1)) old
-    wider = All-weaker (IsRecalled n) (IsRecalled (n + 1)) (λ x p. (omega (arith, p.0), p.1, p.2)) old h.only
+    wider : All (IsRecalledFrom from (n + 1)) old
+    wider = All-weaker (IsRecalledFrom from n) (IsRecalledFrom from (n + 1)) (λ x p. (p.0, (omega (arith, p.1.0), p.1.1, p.1.2))) old h.only
 
-    only_more : (new ≡ old) ⊎ (new ≡ old ++ a ∷ []) → All (IsRecalled (n + 1)) new
-    only_more (inl same) = subst (λ (l : List Addition). All (IsRecalled (n + 1)) l) (sym same) wider
-    only_more (inr more) = subst (λ (l : List Addition). All (IsRecalled (n + 1)) l) (sym more) (All-push (IsRecalled (n + 1)) old a wider (omega (arith, is), outputs, inputs))
+    only_more : (new ≡ old) ⊎ (new ≡ old ++ a ∷ []) → All (IsRecalledFrom from (n + 1)) new
+    only_more (inl same) = subst (λ (l : List Addition). All (IsRecalledFrom from (n + 1)) l) (sym same) wider
+    only_more (inr more) =
+        subst (λ (l : List Addition). All (IsRecalledFrom from (n + 1)) l) (sym more) (All-push (IsRecalledFrom from (n + 1)) old a wider (omega (arith, is, least), (omega (arith, is), outputs, inputs)))
 
     here : (e : ℕ) (d : Edge) → e ≡ n → slice_get edges e ≡ Some d → IsRecorded rule edges e d (paths_for e new)
     here e d same there =
         let edge_is : edge ≡ d = some_is edge d (sym at ∙ ap (slice_get edges) (sym same) ∙ there) in
-        let none : paths_for e old ≡ [] = none_for e n old (omega (arith, same)) h.only in
+        let none : paths_for e old ≡ [] = none_for e n old (omega (arith, same)) (All-weaker (IsRecalledFrom from n) (IsRecalled n) (λ x p. p.1) old h.only) in
         let now : paths_for e new ≡ a.order_only = paths e ∙ ap (λ (l : List Text). l ++ own_paths e a) none ∙ own_here e a (is ∙ sym same) in
         subst (λ (l : List Text). IsRecorded rule edges e d l) (sym now) (subst (λ (x : Edge). IsRecorded rule edges e x a.order_only) edge_is (recorded_of rule edges e edge a.order_only recalled))
       where
         some_is : (x y : Edge) → Some x ≡ Some y → x ≡ y
         some_is x y k = cc
 
-    before : (e : ℕ) (d : Edge) → e < n → slice_get edges e ≡ Some d → IsRecorded rule edges e d (paths_for e new)
-    before e d lt there =
+    before : (e : ℕ) (d : Edge) → from ≤ e → e < n → slice_get edges e ≡ Some d → IsRecorded rule edges e d (paths_for e new)
+    before e d low lt there =
         let now : paths_for e new ≡ paths_for e old = paths e ∙ ap (λ (l : List Text). paths_for e old ++ l) (own_other e a (λ k. omega (arith, lt, is, k))) ∙ append-nil (paths_for e old) in
-        subst (λ (l : List Text). IsRecorded rule edges e d l) (sym now) (h.each e d lt there)
+        subst (λ (l : List Text). IsRecorded rule edges e d l) (sym now) (h.each e d low lt there)
 
-    each_more : (e : ℕ) (d : Edge) → e < n + 1 → slice_get edges e ≡ Some d → IsRecorded rule edges e d (paths_for e new)
-    each_more e d lt there = elim (cases_lt e n) [ inl less ↦ before e d less there | inr not ↦ here e d (omega (arith, lt, not)) there ]
+    each_more : (e : ℕ) (d : Edge) → from ≤ e → e < n + 1 → slice_get edges e ≡ Some d → IsRecorded rule edges e d (paths_for e new)
+    each_more e d low lt there = elim (cases_lt e n) [ inl less ↦ before e d low less there | inr not ↦ here e d (omega (arith, lt, not)) there ]
 
 -- ---- additions that edges need
 

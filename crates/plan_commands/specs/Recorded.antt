@@ -1,5 +1,5 @@
 -- What the record adds to a manifest: edges wait for the makers of the paths that their entries name.
-use Rattle.std.specs.Prelude.{◌≡◌, ◌≢◌, ◌⊎◌, ◌<◌, ◌==◌, ℕ, List, [], ◌∷◌, ◌++◌, All, Contains, Some, Result, Ok, Err, get_or, if◌then◌else◌, length, slice_get}
+use Rattle.std.specs.Prelude.{◌≡◌, ◌≢◌, ◌⊎◌, ◌<◌, ◌≤◌, ◌==◌, ℕ, List, [], ◌∷◌, ◌++◌, All, Contains, Some, Result, Ok, Err, get_or, if◌then◌else◌, length, slice_get}
 use Rattle.plan_depfile.specs.Depfile.{depfile_of}
 use Rattle.plan_depfile.specs.declared.fault.DepFault.{DepFault}
 use Rattle.plan_scope.specs.Edge.{Edge}
@@ -118,6 +118,15 @@ NamesAmong rule wanted e found = (paths : List Text) × MayName rule e paths × 
 -- An addition of order-only inputs to one of the first n edges.
 abbrev pub IsRecalled : ℕ → Addition → Type 0
 IsRecalled n a = (a.edge < n) × (a.outputs ≡ []) × (a.inputs ≡ [])
+
+-- An addition of order-only inputs to one of the edges from one number up to another one.
+abbrev pub IsRecalledFrom : ℕ → ℕ → Addition → Type 0
+IsRecalledFrom from to a = (from ≤ a.edge) × IsRecalled to a
+
+-- The paths of the entries of the edges from one number up to another one, of which some may be no outputs.
+pub record AreRecalledBetween (rule : Rule) (edges : List Edge) (from to : ℕ) (additions : List Addition) : Type 0 where
+  pub only : All (IsRecalledFrom from to) additions
+  pub each : (e : ℕ) (edge : Edge) → from ≤ e → e < to → slice_get edges e ≡ Some edge → IsRecorded rule edges e edge (paths_for e additions)
 
 -- The paths of entries, of which some may be no outputs.
 pub record AreRecalled (rule : Rule) (edges : List Edge) (additions : List Addition) : Type 0 where

@@ -4,7 +4,7 @@ ghost use Rattle.std.specs.Prelude.{◌≡◌, ◌⊎◌, ◌<◌, ◌≤◌, �
 ghost use Rattle.plan_graph.specs.Graph.{IsGraph, max_edges, outputs_of};
 ghost use Rattle.plan_depfile.specs.Depfile.{depfile_of};
 ghost use Rattle.plan_lanes.specs.Recalled.{AreAmong};
-ghost use Rattle.plan_commands.specs.Recorded.{AreRecalled, AreRecorded, AreSome, DependsOn, IsMadeIn, IsNeeded, IsRecalled, IsWaitOf, MayLeaveIn, NamesAmong, name_of, ok_or_none, own_paths, paths_for, paths_in};
+ghost use Rattle.plan_commands.specs.Recorded.{AreRecalled, AreRecalledBetween, AreRecorded, AreSome, DependsOn, IsMadeIn, IsNeeded, IsRecalled, IsWaitOf, MayLeaveIn, NamesAmong, name_of, ok_or_none, own_paths, paths_for, paths_in};
 
 use crate::depfiles::check_unrecorded;
 use plan_graph::{Graph, Wait, cycle_with};
@@ -13,6 +13,7 @@ use plan_machine::{Depfile, Reply};
 use plan_scope::{Addition, EdgeList, EdgeRef, Manifest, PathRange};
 use plan_text::{PathFilter, RowList};
 use std::alloc::{AllocError, Global};
+use std::thread::{Threads, join};
 
 /// Adds paths to a filter.
 fn add_paths<'a>(filter: &mut PathFilter, paths: &PathRange<'a>)
@@ -130,6 +131,31 @@ fn push_order_only(
     Ok(())
 }
 
+/// Returns the recorded paths that may be outputs of the edges from one number up to another one, as order-only inputs.
+/// `filter` has all outputs.
+fn recalled_between<W: World>(
+    alloc: Global,
+    world: &W,
+    edges: &EdgeList,
+    filter: &PathFilter,
+    from: usize,
+    to: usize,
+) -> Result<Vec<Addition>, AllocError>
+    requires few { length edges.now ≤ max_edges }
+    requires filter { filter.now ≡ flat_map outputs_of edges.now }
+    requires order { from ≤ to }
+    requires within { to ≤ length edges.now }
+    ensures { IfOk result (λ additions. AreRecalledBetween W.allows edges.now from to additions.items) }
+{
+    let mut additions = Vec::new(alloc);
+    for number in from..to {
+        let edge = edges.edge(number);
+        let paths = recorded_paths(alloc, world, filter, &edge)?;
+        push_order_only(alloc, number as u32, paths, &mut additions)?;
+    }
+    Ok(additions)
+}
+
 /// Returns the recorded paths of all edges that may be outputs, as order-only inputs.
 pub(crate) fn recalled_paths<W: World>(
     alloc: Global,
@@ -140,13 +166,70 @@ pub(crate) fn recalled_paths<W: World>(
     ensures { IfOk result (λ additions. AreRecalled W.allows edges.now additions.items) }
 {
     let filter = filter_of(alloc, edges)?;
-    let mut additions = Vec::new(alloc);
-    for number in 0..edges.len() {
-        let edge = edges.edge(number);
-        let paths = recorded_paths(alloc, world, &filter, &edge)?;
-        push_order_only(alloc, number as u32, paths, &mut additions)?;
-    }
+    let additions = recalled_between(alloc, world, edges, &filter, 0, edges.len())?;
     Ok(additions)
+}
+
+/// Returns the additions of two lists, those of the first one first.
+fn joined(mut first: Vec<Addition>, second: Vec<Addition>) -> Result<Vec<Addition>, AllocError>
+    ensures { IfOk result (λ all. all.items ≡ first.items ++ second.items) }
+{
+    for addition in second {
+        first.push(addition)?;
+    }
+    Ok(first)
+}
+
+/// Returns the recorded paths of the edges below a number, and of those from there on, by two threads.
+fn recalled_apart<R: Threads, W: World + Send + Sync>(
+    rt: &R,
+    alloc: Global,
+    world: &W,
+    edges: &EdgeList,
+    filter: &PathFilter,
+    half: usize,
+    count: usize,
+) -> (
+    Result<Vec<Addition>, AllocError>,
+    Result<Vec<Addition>, AllocError>,
+)
+    requires few { length edges.now ≤ max_edges }
+    requires filter { filter.now ≡ flat_map outputs_of edges.now }
+    requires order { half ≤ count }
+    requires within { count ≤ length edges.now }
+    ensures first { IfOk result.0 (λ a. AreRecalledBetween W.allows edges.now 0 half a.items) }
+    ensures second { IfOk result.1 (λ a. AreRecalledBetween W.allows edges.now half count a.items) }
+{
+    join(
+        rt,
+        || recalled_between(alloc, world, edges, filter, 0, half),
+        || recalled_between(alloc, world, edges, filter, half, count),
+    )
+}
+
+/// Returns the recorded paths of all edges like `recalled_paths`, by two threads.
+pub(crate) fn recalled_by_two<R: Threads, W: World + Send + Sync>(
+    rt: &R,
+    alloc: Global,
+    world: &W,
+    edges: &EdgeList,
+) -> Result<Vec<Addition>, AllocError>
+    requires { length edges.now ≤ max_edges }
+    ensures { IfOk result (λ additions. AreRecalled W.allows edges.now additions.items) }
+{
+    let filter = filter_of(alloc, edges)?;
+    let count = edges.len();
+    let (first, second) = recalled_apart(rt, alloc, world, edges, &filter, count / 2, count);
+    match second {
+        Ok(second) => {
+            let all = joined(first?, second)?;
+            Ok(all)
+        }
+        Err(error) => {
+            drop(first);
+            Err(error)
+        }
+    }
 }
 
 /// The largest number of edges that a search looks at.

@@ -15,7 +15,7 @@ ghost use Rattle.plan_printing.specs.Faults as faults;
 
 use crate::compiling::{FEW_EDGES, graph_and_names, graph_of, image_by, image_with};
 use crate::foreign::{check_by_four, check_entries};
-use crate::recorded::{needed_inputs, recalled_paths};
+use crate::recorded::{needed_inputs, recalled_by_two, recalled_paths};
 use plan_compile::{EdgeNames, OutOfDateRule, collect_names};
 use plan_graph::{Graph, MAX_EDGES};
 use plan_image::Image;
@@ -73,7 +73,10 @@ fn recalled_and_checked<R: Threads + Sync, W: World + Send + Sync>(
 {
     let (recalled, checked) = join(
         rt,
-        || recalled_paths(alloc, world, edges),
+        || -> Result<Vec<Addition>, AllocError>
+            requires { IsSync R.row × IsSend W.row × IsSync W.row × (length edges.now ≤ max_edges) }
+            ensures { IfOk result (λ a. AreRecalled W.allows edges.entry.now a.items) }
+        { recalled_by_two(rt, alloc, world, edges) },
         || check_by_four(rt, alloc, world, edges),
     );
     match checked {

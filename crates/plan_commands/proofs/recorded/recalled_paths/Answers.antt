@@ -1,25 +1,5 @@
-use Rattle.std.proofs.Common.{◌≡◌, ◌⊎◌, ◌<◌, ◌≤◌, ◌∙◌, [], List, arith, length, refl, subst}
-use Rattle.std.specs.Prelude.{flat_map}
-use Rattle.plan_scope.specs.Scopes.{Text}
-use Rattle.plan_scope.specs.declared.edge.addition.Addition.{Addition}
-use Rattle.plan_graph.specs.Graph.{outputs_of}
-use Rattle.plan_commands.specs.Recorded.{NamesAmong}
-use Rattle.plan_commands.proofs.RecordedLemmas.{adds, all_recalled, recalled_more}
+use Rattle.plan_commands.proofs.RecordedLemmas.{all_recalled}
 use Rattle.plan_commands.proofs.recorded.recalled_paths.Goals as goal
 
-pub loop-number-preserved : goal.loop-number-preserved
-loop-number-preserved g c =
-    let edges = c.args.edges.now in
-    let n = c.loop-number.number in
-    let edge = c.edge-edge.result in
-    let paths = c.in_ok-paths.paths in
-    let a : Addition = adds n [] [] paths in
-    let recalled : ((edge.depfile ≡ []) × (paths ≡ [])) ⊎ NamesAmong g.W.World.allows (flat_map outputs_of edges) edge paths =
-    subst (λ (f : List Text). ((edge.depfile ≡ []) × (paths ≡ [])) ⊎ NamesAmong g.W.World.allows f edge paths) c.in_ok-filter.ensures c.in_ok-paths.ensures in
-    recalled_more g.W.World.allows edges n edge a c.loop-number.additions.items c.push_order_only.new.additions.items c.edge-edge.ensures refl refl refl recalled c.in_ok-push_order_only.ensures.paths c.in_ok-push_order_only.ensures.added c.loop-number.invariant
-
 pub returns : goal.returns
-returns g c =
-    let edges = c.args.edges.now in
-    let is : c.loop-number.number ≡ length edges = omega (arith, c.loop-number-test.false, c.len-number-end.ensures, c.loop-number.auto.number-end) in
-    all_recalled g.W.World.allows edges c.loop-number.number c.loop-number.additions.items is c.loop-number.invariant
+returns g c = all_recalled g.W.World.allows c.args.edges.now c.len.result c.in_ok-additions.additions.items c.len.ensures c.in_ok-additions.ensures
