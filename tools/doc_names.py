@@ -2,14 +2,15 @@
 
 The numbers and names of docs/using/refusals.md are those of the code, both ways. Words between backticks in docs/
 that look like names of code (`foo_bar`, `FooBar`) occur in crates/, tests/, bench/ or the Makefile. Lines of documents,
-except the rows of tables, and lines of the scripts have at most 120 columns. docs/developing/architecture.md says of
-each crate which crates it uses, as crates.txt does, and the trusted base has just the crates of the kit that are used.
+except the rows of tables, and lines of the scripts have at most 120 columns. docs/developing/architecture.md describes
+the crates of crates.txt and no others, each with the crates that it uses. The trusted base has the crates of the kit
+that the programs use, those that only the tests use, and no others.
 """
 from __future__ import annotations
 
 import pathlib
 import re
-from collections.abc import Iterator
+from collections.abc import Iterable, Iterator
 
 import call_graph
 import over_sources
@@ -22,7 +23,9 @@ CODE = ("crates/*/src/**/*.rt", "crates/*/specs/**/*.antt", "crates/*/proofs/**/
 NARROW = ("*.md", "docs/**/*.md", "docs/**/*.trace", "tests/**/*.md", "tests/*.py", "tests/lib/*.py",
           "tests/suites/*.py", "tests/real/*.py", "tools/*.py", "tools/*.md", "bench/*.py", "bench/*.md", "crates/*.md")
 FOLDERS = ("crates", "tests", "tools", "bench", "examples")
-DESCRIBED = re.compile(r"^- \*\*(plan_\w+)\*\*(?: \(([^)]*)\))?:", re.MULTILINE)
+PROGRAMS = ("plan_ninja", "plan_build")
+DESCRIBED = re.compile(r"\*\*(plan_\w+)\*\*(?: \(([^)]*)\))?")
+TRUSTED = re.compile(r"kit's crates\W+that the program uses: ([\w ,]+)\W+[Tt]he tests (?:also )?use ([\w ,]+)")
 LOOKS_LIKE_A_NAME = re.compile(r"[a-z]\w*_\w*[a-z0-9]|[A-Z][a-z0-9]+(?:[A-Z][a-z0-9]*)+")
 
 # Lines that may be wider, by file: tables that can't be broken, and the texts of other tools that scripts write.
@@ -116,33 +119,40 @@ def file_faults() -> Iterator[str]:
 
 
 def described_crates() -> dict[str, set[str]]:
-    """The crates that architecture.md describes, each with those that it uses, which stand in brackets."""
+    """The crates that architecture.md describes, each with those that it uses, which are in brackets."""
     text = (ROOT / "docs/developing/architecture.md").read_text()
-    found = DESCRIBED.findall(text)
+    section = text.partition("\n## The crates\n")[2].partition("\n## ")[0]
+    found = DESCRIBED.findall(" ".join(section.split()))
     return {name: set(re.findall(r"\w+", used)) - {"only", "std"} for name, used in found}
 
 
-def trusted_crates(page: str) -> set[str]:
-    """The words of a page behind `kit's crates`, up to the last crate that the trusted base names."""
-    named = (ROOT / "docs" / page).read_text().partition("kit's crates")[2]
-    return set(re.findall(r"\w+", named.partition("byteorder")[0])) | {"byteorder"}
+def trusted_crates(page: str) -> tuple[set[str], set[str]]:
+    """The crates of the kit that the trusted base of a page names: of the programs, and of the tests."""
+    found = TRUSTED.search(" ".join((ROOT / "docs" / page).read_text().split()))
+    programs, tests = found.groups() if found else ("", "")
+    return set(re.findall(r"\w+", programs)) - {"and"}, set(re.findall(r"\w+", tests)) - {"and", "too"}
 
 
-def used_of_the_kit() -> set[str]:
-    """The crates of the kit that crates.txt names."""
+def used_of_the_kit(crates: Iterable[str]) -> set[str]:
+    """The crates of the kit that these crates, or those below them, use."""
     listed = over_sources.crates()
-    return {name for used in listed.values() for name in used} - set(listed)
+    own = {name for crate in crates for name in (crate, *over_sources.below(crate, listed, []))}
+    return {name for crate in own for name in listed[crate]} - set(listed)
 
 
 def crate_faults() -> Iterator[str]:
-    """Yields crates of which architecture.md says other than crates.txt, or which the trusted base leaves out."""
-    described = described_crates()
-    for name, used in over_sources.crates().items():
-        if described.get(name, set()) != set(used) and not name.startswith("plan_tests_"):
+    """Yields where architecture.md or a trusted base says other than crates.txt."""
+    described, listed = described_crates(), over_sources.crates()
+    for name, used in listed.items():
+        if described.get(name) != set(used):
             yield f"docs/developing/architecture.md: {name} uses {' '.join(used) or 'no crate'}, as crates.txt says"
+    for name in sorted(described.keys() - set(listed)):
+        yield f"docs/developing/architecture.md: {name} is not in crates.txt"
+    programs, every = used_of_the_kit(PROGRAMS), used_of_the_kit(listed)
     for page in ("GUARANTEE.md", "developing/promises.md"):
-        for name in sorted(used_of_the_kit() - trusted_crates(page)):
-            yield f"docs/{page}: the trusted base leaves out {name}"
+        for who, used, named in zip(("program", "tests"), (programs, every - programs), trusted_crates(page)):
+            yield from (f"docs/{page}: the trusted base leaves out {name}, {who}" for name in sorted(used - named))
+            yield from (f"docs/{page}: the trusted base has {name}, {who}: not used" for name in sorted(named - used))
 
 
 def width_faults() -> Iterator[str]:
