@@ -4,12 +4,14 @@ ghost use Rattle.plan_machine.specs.Kept.{IsStateOf};
 
 mod ends;
 mod places;
+mod restat;
 
 use crate::samples::{Plain, READS, RUNNING, SampleEdge, depfile, image_of, ran, three};
 use plan_image::{Instr, Sort};
 use plan_machine::*;
 use plan_verify::Verified;
 use std::alloc::Global;
+use std::test::Fail;
 
 /// Creates an image of one edge with this code and without a pool.
 fn alone(alloc: Global, code: &[Instr]) -> Option<Verified> {
@@ -191,6 +193,21 @@ fn sweep(rt: HostRuntime) {
     assert!(rt; comes_to(rt.alloc(), &image, b"") == Ok((11, clean)));
     let words = b"out: a.h \\\n b.h ./a.h";
     assert!(rt; comes_to(rt.alloc(), &image, words) == Ok((15, clean)));
+}
+
+/// Checks that an edge whose depfile has 16,777,217 blanks fails at the first byte after the limit. The depfile has no
+/// paths, so that the number of events stays within the budget of the image.
+#[test]
+fn depfile_of_blanks(rt: HostRuntime) -> Result<(), Fail> {
+    let Some(image) = alone(rt.alloc(), &READS) else {
+        panic!(&rt; "no image");
+    };
+    let blanks = vec![in rt.alloc(); b' '; 16_777_217]?;
+    let failed = Outcome::Failed(Cause::DepfileMalformed(93, 16_777_216));
+    assert_eq!(rt; image.budget(), 11);
+    assert!(rt; comes_to(rt.alloc(), &image, &blanks) == Ok((9, Some(failed))));
+    drop(image);
+    Ok(())
 }
 
 /// Checks whether a depfile still has its bytes, and this many paths, in the form that a journal keeps. Returns false
