@@ -1,6 +1,6 @@
 //! Tests the status lines and outcomes of an image made by hand.
 
-ghost use Rattle.plan_status.specs.Live.{AreEnds, IsUnused};
+ghost use Rattle.plan_status.specs.Live.{AreEnds, IsFed, IsUnused};
 
 use plan_image::{Edge, EdgeCode, Edges, Image, Instr, Parts, Pool, Sort};
 use plan_machine::{Cause, Event, Mark, Options, State, replay};
@@ -9,7 +9,13 @@ use plan_text::{Counted, Items, RowList, Sink};
 use plan_verify::{Verified, verify};
 use std::alloc::{AllocError, Global};
 use std::io::{self, Write};
+use std::rt::Clock;
+use std::sync::Wait;
+use std::sync::atomic::{AtomicBool, Ordering};
 use std::test::Fail;
+use std::thread;
+use std::thread::{Threads, join};
+use std::time::Duration;
 
 /// Returns an edge that ends at once. `number` is its rank and its only output. Edge 0 is a console edge.
 fn edge(
@@ -140,6 +146,92 @@ fn lines_through_a_ring(rt: HostRuntime) {
             b"FAILED a: exit 2\n[2/4] true\n[3/4] true\nSKIPPED d: needs a\n".as_slice()
         );
     }
+}
+
+/// Puts marks into a ring, and looks for room again after a millisecond, for some seconds. Then sets the flag that no
+/// more marks come. Returns the feed.
+fn show_all<C: Clock>(clock: &C, feed: Feed, marks: &[Mark], is_over: &AtomicBool) -> Feed
+    requires { IsFed marks.now feed }
+{
+    let mut feed = feed;
+    for _ in 0..5_000u32 {
+        feed.show(marks);
+        if feed.shown() == marks.len() {
+            break;
+        }
+        thread::sleep(clock, Duration::from_millis(1));
+    }
+    is_over.store(true, Ordering::SeqCst);
+    feed
+}
+
+/// Prints marks as they come. Looks once more after the flag says that no more come. Returns the tap and the text.
+fn print_all<C: Clock>(
+    clock: &C,
+    alloc: Global,
+    image: &Verified,
+    tap: Tap,
+    is_over: &AtomicBool,
+) -> (Tap, Vec<u8>) {
+    let (mut tap, mut format) = (tap, StatusLines::new());
+    let mut out = Counted::new(Vec::new(alloc));
+    for _ in 0..10_000u32 {
+        let last = is_over.load(Ordering::SeqCst);
+        tap.print(image, 4, &mut format, &mut out);
+        if last {
+            break;
+        }
+        thread::sleep(clock, Duration::from_millis(1));
+    }
+    (tap, out.into_writer())
+}
+
+/// Shows marks through a ring of one while another thread prints them. Returns the number of marks that were put in, and
+/// the text that the thread has printed. None if memory runs out.
+fn printed_beside<R: Threads + Wait + Sync, C: Clock + Sync>(
+    rt: &R,
+    clock: &C,
+    alloc: Global,
+    image: &Verified,
+    marks: &[Mark],
+) -> Option<(usize, Vec<u8>)> {
+    let Ok((feed, tap)) = live(alloc, 1) else {
+        return None;
+    };
+    let is_over = AtomicBool::new(false);
+    let ((tap, text), feed) = join(
+        rt,
+        || print_all(clock, alloc, image, tap, &is_over),
+        || show_all(clock, feed, marks, &is_over),
+    );
+    drop(tap);
+    Some((feed.shown(), text))
+}
+
+/// All lines go through a ring with room for one mark, since another thread makes room. None is left to settle.
+#[test]
+fn ring_of_one_and_another_thread(rt: HostRuntime) -> Result<(), Fail> {
+    let Some(image) = image_of(rt.alloc()) else {
+        panic!(&rt; "no image");
+    };
+    let marks = [
+        Mark::Started(0),
+        Mark::Failed(0, Cause::Exit(2)),
+        Mark::Ended(1, true),
+        Mark::Ended(2, true),
+        Mark::Skipped(3, 0),
+    ];
+    let clock = rt.clone()?;
+    let Some((shown, text)) = printed_beside(&rt, &clock, rt.alloc(), &image, &marks) else {
+        panic!(&rt; "no ring");
+    };
+    assert_eq!(rt; shown, 5);
+    assert_eq!(rt;
+        text.as_slice(),
+        b"FAILED a: exit 2\n[2/4] true\n[3/4] true\nSKIPPED d: needs a\n".as_slice()
+    );
+    drop(image);
+    Ok(())
 }
 
 /// Checks whether the feed shows all marks and the tap prints `text`, without settling. Returns `None` if memory
