@@ -58,17 +58,16 @@ fn has_paths_cut_at(
     Ok(has_paths(&paths, want))
 }
 
+/// A depfile with an escaped blank, an escaped newline, two dollars, a path that comes twice and an escaped colon.
+const CUT: &[u8] = b"out: a\\ a.h \\\r\n $$b.h ./a\\ a.h a\\:b\nx:y";
+
+/// Its paths.
+const CUT_PATHS: [&[u8]; 4] = [b"a a.h", b"$b.h", b"a:b", b"y"];
+
 #[test]
 fn cut_at_each_byte(rt: HostRuntime) -> Result<(), Fail> {
-    let text = b"out: a\\ a.h \\\r\n $$b.h ./a\\ a.h a\\:b\nx:y".as_slice();
-    let want = [
-        b"a a.h".as_slice(),
-        b"$b.h".as_slice(),
-        b"a:b".as_slice(),
-        b"y".as_slice(),
-    ];
-    for at in 0..text.len() {
-        let found = value_of(has_paths_cut_at(rt.alloc(), text, at, want.as_slice()))?;
+    for at in 0..CUT.len() {
+        let found = value_of(has_paths_cut_at(rt.alloc(), CUT, at, CUT_PATHS.as_slice()))?;
         assert!(rt; found, "cut at {at}");
     }
     Ok(())
@@ -139,6 +138,19 @@ fn gathered_and_copied(rt: HostRuntime) -> Result<(), Fail> {
     assert_eq!(rt; copy.bytes(), b"out: a.h \\\n b.h ./a.h".as_slice());
     let want = [b"a.h".as_slice(), b"b.h".as_slice()];
     assert!(rt; reads_as(&copy, want.as_slice()));
+    Ok(())
+}
+
+/// Collects the depfile that is cut at each byte, and copies what was read. Checks that the copy has the whole text and
+/// its paths.
+#[test]
+fn copied_when_cut_at_each_byte(rt: HostRuntime) -> Result<(), Fail> {
+    for at in 0..CUT.len() {
+        let (front, rest) = CUT.split_at(at);
+        let copy = value_of(gathered_copy(rt.alloc(), front, rest))?;
+        assert!(rt; copy.bytes() == CUT, "bytes, cut at {at}");
+        assert!(rt; reads_as(&copy, CUT_PATHS.as_slice()), "paths, cut at {at}");
+    }
     Ok(())
 }
 
