@@ -9,7 +9,7 @@ pub(crate) mod stop;
 ghost use Rattle.plan_image.specs.Reading.{read_of, Gives, pool_at, version_at, head_at, later_tables_at, parts_at, tables_at};
 ghost use Rattle.plan_image.specs.Spelling.{spelling, IsNoSpelling};
 ghost use Rattle.plan_text.specs.Outcome.{Meets};
-ghost use Rattle.std.specs.Prelude.{◌≡◌, IfOk, IfErr, ◌≢◌};
+ghost use Rattle.std.specs.Prelude.{◌≡◌, ◌==◌, IfOk, IfErr, ◌≢◌, length};
 
 use crate::fault::{Cause, ImageFault};
 use crate::image::{Image, Parts, Pool, Slot, Version};
@@ -171,12 +171,19 @@ pub(crate) fn read_parts(alloc: Global, bytes: &[u8]) -> Result<(Parts, &[u8]), 
     read_later_tables(alloc, texts, files, pools, slots, version, rest)
 }
 
+/// Checks whether no bytes are left after an image.
+fn is_all_read(rest: &[u8]) -> bool
+    ensures { result ≡ (length rest.now == 0) }
+{
+    rest.is_empty()
+}
+
 #[tactic(auto, unfolding(crate::specs::Reading::tables_at))]
 pub(crate) fn read_whole(alloc: Global, bytes: &[u8]) -> Result<Parts, ReadFault>
     ensures { Gives (λ x. x) result (tables_at bytes.now) }
 {
     let (parts, rest) = read_parts(alloc, bytes)?;
-    if !rest.is_empty() {
+    if !is_all_read(rest) {
         return Err(stop_at(Cause::Trailing, rest));
     }
     Ok(parts)
