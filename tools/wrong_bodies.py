@@ -4,9 +4,9 @@
 They say nothing wrong and are of no use: lanes that work one after another, or a call that always answers want of
 memory. Such an edit names, in its line `tests:`, a crate of tests and the path of one of its tests. On copies of the
 tree the test has to pass, compiled without proofs, and has to fail once the edit is made. Other modules of tests are
-left out of the copies, to save time. With --tests-passed the test isn't run without the edit, since all tests have just
-passed on these sources. With --gate only edits are tried that have a line `gate:`, which says what they would break.
-Two tests run side by side. The last line is `N passed, M failed`.
+left out of the copies, to save time, and so are the crates that only they use. With --tests-passed the test isn't run
+without the edit, since all tests have just passed on these sources. With --gate only edits are tried that have a line
+`gate:`, which says what they would break. Two tests run side by side. The last line is `N passed, M failed`.
 """
 from __future__ import annotations
 
@@ -61,6 +61,20 @@ def keep_only(module: str, crate: pathlib.Path) -> None:
             prove_all.remove_module(crate, name)
             text = text.replace(declared[0], "")
     (source / "lib.rt").write_text(text)
+    keep_used(crate)
+
+
+def keep_used(crate: pathlib.Path) -> None:
+    """Removes those crates from the line of a crate in crates.txt that its sources don't name any more."""
+    texts = (re.sub(r"//.*", "", file.read_text()) for file in (crate / "src").glob("**/*.rt"))
+    named = {word for text in texts for word in re.findall(r"\w+", text)}
+    table = crate.parent.parent / "crates.txt"
+    lines = table.read_text().splitlines()
+    for at, line in enumerate(lines):
+        name, _, used = line.partition(":")
+        if name == crate.name:
+            lines[at] = f"{name}: {' '.join(one for one in used.split() if one in named)}"
+    table.write_text("\n".join([*lines, ""]))
 
 
 def tried(test: Test, edit: Edit | None) -> str:
