@@ -1,8 +1,8 @@
 //! Trees of statements.
 
-ghost use Rattle.std.specs.Prelude.{◌≡◌, IfOk};
-ghost use Rattle.plan_scope.specs.Scopes.{bound_by};
-ghost use Rattle.plan_scope.specs.Kept.{KeptEqScoped};
+ghost use Rattle.std.specs.Prelude.{◌≡◌, ◌∷◌, [], IfOk};
+ghost use Rattle.plan_scope.specs.Scopes.{bound_by, lookup};
+ghost use Rattle.plan_scope.specs.Kept.{KeptEqScoped, kept};
 ghost use Rattle.plan_scope.specs.KindSaid.{kind_said};
 ghost use Rattle.plan_scope.specs.FileStatements.{statement_at};
 ghost use Rattle.plan_scope.specs.declared.fault.ScopeFault.TheVariants as scope_fault;
@@ -15,6 +15,7 @@ pub(crate) mod source;
 use crate::fault::{Cause, ScopeFault};
 use crate::scope::scoped_map::ScopedMap;
 use crate::scope::text::copy_of;
+use crate::tree::loader::FIRST_SCOPE;
 use crate::tree::parsed::{Parsed, Segment, Statements};
 use plan_parse::{BindingLine, BuildLine, CompactStatement, DirectiveKind};
 use plan_text::Items;
@@ -153,6 +154,18 @@ impl Tree {
         ensures { result ≡ self.now }
     {
         Statements::new(self.segments.as_slice())
+    }
+
+    /// Returns the text of a name in the scope of the first file at the end of the manifest. Returns an empty text if
+    /// nothing binds the name there.
+    #[tactic(auto, using(crate::proofs::ScopeLemmas::stands))]
+    pub fn text_at_end(&self, name: &[u8]) -> &[u8]
+        ensures { kept result.now ≡ kept (lookup (bound_by self.now) (0 ∷ []) name.now) }
+    {
+        match self.bound.nearest(&[FIRST_SCOPE], name) {
+            Some(text) => text.as_slice(),
+            None => &[],
+        }
     }
 
     /// Returns the bindings of the statements.

@@ -32,7 +32,7 @@ use std::rc::Rc;
 const MORE_FILES: usize = 63;
 
 /// The scope of the first file.
-const FIRST_SCOPE: usize = 0;
+pub(crate) const FIRST_SCOPE: usize = 0;
 
 /// Returns the fault that refuses a statement, or `LoadMemory` if memory runs out.
 fn refusal_of(alloc: Global, statement: &TreeStatement<'_>, cause: Cause) -> ScopeFault
