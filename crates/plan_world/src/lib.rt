@@ -4,6 +4,7 @@
 //! - `Shells`: starts the shells of commands and waits for them. `SystemShells`: the shells of the system.
 //! - `OpenFault`: why a record can't be opened.
 //! - `recompact`, `restat`, `recorded_outputs`, `recorded_paths`: rewrite or list a record between builds.
+//! - `take_over`: moves the entries of some outputs to a new record.
 //! - `SharedFile`: a file with a lock, such as the record's file. `VARIABLE` names the builders above a command.
 //! - `Process`, `all_processes`, `own_process`, `with_below`: the processes of the system.
 //!
@@ -30,6 +31,7 @@ mod restating;
 mod rewriting;
 mod shell;
 mod stamp;
+mod taking_over;
 mod waiting;
 mod world;
 
@@ -38,6 +40,7 @@ pub use fault::OpenFault;
 pub use maintenance::{recompact, recorded_outputs, recorded_paths, restat};
 pub use processes::{Process, all_processes, own_process, with_below};
 pub use shell::{Printed, Shells, SystemShells};
+pub use taking_over::take_over;
 pub use world::RealWorld;
 
 #[cfg(test)]

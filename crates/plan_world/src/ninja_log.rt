@@ -209,7 +209,21 @@ impl NinjaLog {
         }
     }
 
-    /// Appends the lines by which these outputs are out of date for ninja, if the log is there.
+    /// Appends the lines by which these outputs are out of date for ninja. Returns whether the log is there.
+    pub(crate) fn mark<R: Files>(&self, rt: &R, outputs: &RowList<u8>) -> Result<bool, DeviceFault>
+    where
+        R::File: Read + Write + Seek + OpenFile + Drop,
+    {
+        let Some(file) = open_log(rt, self.log.as_str())? else {
+            return Ok(false);
+        };
+        let mut file = file;
+        let lines = lines_of(self.alloc, b"0\t0\t0\t", outputs, b"\t0\n")?;
+        append_lines(self.alloc, &mut file, &lines)?;
+        Ok(true)
+    }
+
+    /// Marks these outputs as out of date for ninja, and adds them to those whose command begins, if the log is there.
     fn append_begun<R: Files + Wait>(
         &self,
         rt: &R,
@@ -218,13 +232,10 @@ impl NinjaLog {
     where
         R::File: Read + Write + Seek + OpenFile + Drop,
     {
-        let Some(file) = open_log(rt, self.log.as_str())? else {
-            return Ok(());
-        };
-        let mut file = file;
-        let lines = lines_of(self.alloc, b"0\t0\t0\t", outputs, b"\t0\n")?;
-        append_lines(self.alloc, &mut file, &lines)?;
-        self.add(rt, outputs)
+        if self.mark(rt, outputs)? {
+            return self.add(rt, outputs);
+        }
+        Ok(())
     }
 
     /// Marks the outputs of an edge, which has one, as out of date for ninja, if the log is there: the command of the

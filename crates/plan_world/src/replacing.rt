@@ -57,7 +57,7 @@ fn set_date<F: OpenFile>(file: &F, changed: Changed, like: &Metadata) -> Result<
 
 /// Creates a file with these bytes, and with the owner and the permissions of another file. Removes an old file at this
 /// path.
-fn create_like<'a, R: Files>(
+pub(crate) fn create_like<'a, R: Files>(
     rt: &R,
     path: &str,
     bytes: &'a [u8],
@@ -79,7 +79,7 @@ fn create_like<'a, R: Files>(
 }
 
 /// Renames a file that was written, so that it replaces another file.
-fn put_in_place<R: Files>(
+pub(crate) fn put_in_place<R: Files>(
     rt: &R,
     new: &str,
     path: &str,
