@@ -39,7 +39,9 @@ SORTS = (("stat", "1", False), ("spawn", "1", False), ("write", "1", False), ("t
 OLD = 150  # entries of an output that no edge has any more
 # What it writes to standard error then, and what it may say of an edge.
 REASONS = {"stat": "", "spawn": r"plan_ninja: can't start the command of (mid|out): operation would block\n",
-           "write": r"plan_ninja: can't (start the command|keep the entry) of (mid|out): no storage space\n",
+           "write": (r"(plan_ninja: can't write /.*/\.plan_record: no storage space\n"
+                     r"plan_ninja: can't start the command|plan_ninja: can't keep the entry)"
+                     r" of (mid|out): no storage space\n"),
            "memory": ""}
 CAUSES = {"stat": ("stat fault",), "spawn": ("not started",), "write": ("not started", "record fault"), "thread": (),
           "memory": ("not started", "record fault")}

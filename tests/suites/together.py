@@ -360,7 +360,9 @@ def read_only_folder(program: str, folder: pathlib.Path) -> None:
     finally:
         allow(folder, True)
     check((ran.returncode, ran.stdout) == (1, b"FAILED out: not started\n"), f"with something to do: {ran}")
-    check(ran.stderr == b"plan_ninja: can't start the command of out: permission denied\n", f"it said {ran.stderr!r}")
+    told = (f"plan_ninja: can't write {folder.resolve()}/.plan_record: permission denied\n"
+            "plan_ninja: can't start the command of out: permission denied\n")
+    check(ran.stderr.decode() == told, f"it said {ran.stderr!r}")
     tree.builds(0, ["[1/1] cat in > out"])
 
 

@@ -29,6 +29,10 @@ pub(crate) struct BuilderLock<F> {
     names: String,
     /// Whether the standard input of this program holds the lock, so that its commands can hold it too.
     inherits: bool,
+    /// The reason why the record may only be read, if no lock was taken for this reason.
+    unwritable: Option<ErrorKind>,
+    /// When the record was opened, if no lock was taken.
+    opened: Option<u64>,
 }
 
 /// Returns the name of this builder, with the lock of a file. The last two numbers are 0 if the system doesn't show its
@@ -146,6 +150,8 @@ impl<F> BuilderLock<F> {
             file: Some(file),
             names,
             inherits: false,
+            unwritable: None,
+            opened: None,
         }
     }
 
@@ -155,7 +161,30 @@ impl<F> BuilderLock<F> {
             file: None,
             names,
             inherits,
+            unwritable: None,
+            opened: None,
         }
+    }
+
+    /// Returns the permission to read the record at any time, and not to write it. `opened` is the time now, if it is
+    /// known.
+    pub(crate) fn reading(
+        alloc: Global,
+        unwritable: ErrorKind,
+        opened: Option<u64>,
+    ) -> BuilderLock<F> {
+        BuilderLock {
+            file: None,
+            names: String::new(alloc),
+            inherits: false,
+            unwritable: Some(unwritable),
+            opened,
+        }
+    }
+
+    /// Returns the reason why the record may only be read, if no lock was taken for this reason.
+    pub(crate) fn unwritable(&self) -> Option<ErrorKind> {
+        self.unwritable
     }
 
     /// Checks whether this builder itself holds the lock, rather than a builder above it.
@@ -171,10 +200,11 @@ impl<F> BuilderLock<F> {
 
 impl<F: OpenFile> BuilderLock<F> {
     /// Returns the time now, by the clock from which files of this file system get their stamps: that of the lock's
-    /// file after it was set to the length that it has. Returns None if the lock isn't held, or if that fails.
+    /// file after it was set to the length that it has. For a builder that only reads, it is the time at which it opened
+    /// the record. Returns None if a builder above holds the lock, or if that fails.
     pub(crate) fn now(&self) -> Option<u64> {
         let Some(file) = &self.file else {
-            return None;
+            return self.opened;
         };
         match set_again(file) {
             Ok(found) => Some(stamp_at(found.mtime(), found.mtime_nsec())),
@@ -227,7 +257,7 @@ pub trait SharedFile {
 }
 
 /// Checks whether this kind of error means that a file may not be written.
-fn is_unwritable(kind: ErrorKind) -> bool {
+pub(crate) fn is_unwritable(kind: ErrorKind) -> bool {
     kind == ErrorKind::PermissionDenied || kind == ErrorKind::ReadOnlyFilesystem
 }
 

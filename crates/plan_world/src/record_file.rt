@@ -19,11 +19,14 @@ use plan_record::{Entry, Record, load, read_entries, spellings};
 use plan_text::RowList;
 use plan_verify::PathList;
 use std::alloc::Global;
-use std::fs::{Metadata, OpenFile};
+use std::fs::{self, Metadata, OpenFile};
 use std::io::{ErrorKind, Read, Seek, Write};
 use std::marker::Model;
 use std::os::unix::fs::MetadataExt;
 use std::rt::Files;
+
+/// A file that has no bytes.
+const NO_BYTES: &str = "/dev/null";
 
 /// A record with this many entries or fewer isn't compacted.
 const FEW: usize = 100;
@@ -190,6 +193,41 @@ where
     let record = load_file(rt.alloc(), file, unwritable)?;
     record.sink.unlock();
     Ok(record)
+}
+
+/// Opens the file at a path only to read it, or a file without bytes if it is missing. Folders, devices and pipes are
+/// refused.
+fn open_to_read<R: Files>(rt: &R, path: &str) -> Result<R::File, DeviceFault>
+where
+    R::File: OpenFile + Drop,
+{
+    match fs::open(rt, path) {
+        Ok(file) => {
+            if !file.metadata()?.is_file() {
+                return Err(DeviceFault::System(ErrorKind::InvalidInput));
+            }
+            Ok(file)
+        }
+        Err(error) => match error.kind() {
+            ErrorKind::NotFound | ErrorKind::NotADirectory => Ok(fs::open(rt, NO_BYTES)?),
+            _ => Err(DeviceFault::from(error)),
+        },
+    }
+}
+
+/// Opens the record at a path only to read it, as it is now. Takes no lock, creates nothing, and leaves an incomplete
+/// entry at its end, which another builder may be about to append. A missing record has no entries. `unwritable` is the
+/// reason why it isn't written.
+pub(crate) fn read_as_is<R: Files + AllocGlobal>(
+    rt: &R,
+    path: &str,
+    unwritable: ErrorKind,
+) -> Result<RecordFile<R::File>, DeviceFault>
+where
+    R::File: Read + OpenFile + SharedFile + Drop,
+    ensures well { IfOk result (λ r. r.broken ≡ false) }
+{
+    load_file(rt.alloc(), open_to_read(rt, path)?, Some(unwritable))
 }
 
 impl<F> RecordFile<F> {

@@ -10,13 +10,13 @@ ghost use Rattle.plan_world.specs.Shells.{AreTexts};
 
 use crate::askable::{are_askable, are_rows_askable};
 use crate::begins::{Begins, basis_from, is_later};
-use crate::builder_lock::{BuilderLock, SharedFile, take_lock};
+use crate::builder_lock::{BuilderLock, SharedFile, is_unwritable, take_lock};
 use crate::depfile::{names_nothing, read_depfile};
 use crate::ended_entries::EndedEntries;
 use crate::fault::{DeviceFault, OpenFault};
 use crate::ninja_log::NinjaLog;
 use crate::reasons::say;
-use crate::record_file::{Kept, RecordFile, StartRecorded, open_file, open_record};
+use crate::record_file::{Kept, RecordFile, StartRecorded, open_file, open_record, read_as_is};
 use crate::record_sink::{begun_entry, entry_among, is_begun, is_begun_with, recorded_of};
 use crate::rewriting::compact_grown;
 use crate::shell::{Shells, make_folders, run_shell};
@@ -34,7 +34,7 @@ use std::os::unix::fs::MetadataExt;
 use std::rt::Files;
 use std::sync::{Mutex, Wait};
 use std::thread::Parker;
-use std::time::Clock;
+use std::time::{Clock, SystemTime, UNIX_EPOCH};
 
 /// Real files and commands, and a record file that is open. Several lanes may call it at the same time.
 ///
@@ -103,6 +103,23 @@ where
         RealWorld::open_with(rt, shells, record, Some(begins))
     }
 
+    /// Opens the world of the stricter rule for a build that runs no commands. Reads the record, which may be missing,
+    /// as it is now: takes no lock, waits for no other builder, and creates and writes nothing. No command is started,
+    /// and no entry is kept.
+    ///
+    /// # Errors
+    /// `Device` if the record can't be read, and `Memory`.
+    pub fn open_reading(rt: R, shells: S, record: &str) -> Result<RealWorld<R, S>, OpenFault>
+    where
+        R: Drop,
+        S: Drop,
+    {
+        let ninja_log = NinjaLog::next_to(rt.alloc(), record)?;
+        let begins = Begins::new(rt.alloc(), ninja_log);
+        let opened = open_for_reading(&rt, record);
+        RealWorld::with_opened(rt, shells, record, Some(begins), opened)
+    }
+
     /// Opens the world of a runtime and of shells. If `begins` is given, it is a world of the stricter rule.
     fn open_with(
         rt: R,
@@ -114,8 +131,24 @@ where
         R: Clone + Drop,
         S: Drop,
     {
+        let opened = open_for_building(&rt, record, begins.is_some());
+        RealWorld::with_opened(rt, shells, record, begins, opened)
+    }
+
+    /// Returns the world with a record that was opened. If it couldn't be opened, reports the reason on standard error.
+    fn with_opened(
+        rt: R,
+        shells: S,
+        record: &str,
+        begins: Option<Begins>,
+        opened: Result<Opened<R::File>, DeviceFault>,
+    ) -> Result<RealWorld<R, S>, OpenFault>
+    where
+        R: Drop,
+        S: Drop,
+    {
         let ended = EndedEntries::new(rt.alloc());
-        match open_for_building(&rt, record, begins.is_some()) {
+        match opened {
             Ok(opened) => {
                 let Opened {
                     path,
@@ -144,10 +177,21 @@ where
     }
 }
 
+/// Returns the path of a file from the root.
+fn whole_path<R: Files + AllocGlobal>(rt: &R, path: &str) -> Result<String, DeviceFault> {
+    if path.starts_with('/') {
+        return Ok(String::from_str(rt.alloc(), path)?);
+    }
+    let folder = fs::canonicalize(rt, ".")?;
+    let folder = folder.as_str();
+    Ok(format!(in rt.alloc(); "{folder}/{path}")?)
+}
+
 /// A record of this many bytes or more isn't read when it is opened.
 const LONG: u64 = 65_536;
 
-/// Opens a record that is locked, reads it, and compacts it if it has grown.
+/// Opens a record that is locked, reads it, and compacts it if it has grown. If no lock was taken, since the record
+/// isn't written, it is only read.
 fn open_locked<R: Files + AllocGlobal>(
     rt: &R,
     record: &str,
@@ -156,6 +200,9 @@ fn open_locked<R: Files + AllocGlobal>(
 where
     R::File: Read + Write + Seek + OpenFile + SharedFile + Drop,
 {
+    if let Some(unwritable) = lock.unwritable() {
+        return read_as_is(rt, record, unwritable);
+    }
     let file = open_record(rt, record)?;
     compact_grown(rt, record, lock, file)
 }
@@ -171,8 +218,8 @@ struct Opened<F> {
     file: Option<RecordFile<F>>,
 }
 
-/// Returns the stamp of the record at a path. Returns None if it is missing or empty. The caller must have taken its
-/// lock, since a builder that holds the lock writes the record and replaces its file.
+/// Returns the stamp of the record at a path. Returns None if it is missing or empty. A builder that holds the lock
+/// writes the record and replaces its file.
 fn written_stamp<R: Files>(rt: &R, record: &str) -> Result<Option<u64>, DeviceFault> {
     match fs::metadata(rt, record) {
         Ok(found) if found.len() > 0 => Ok(Some(stamp_at(found.mtime(), found.mtime_nsec()))),
@@ -184,26 +231,75 @@ fn written_stamp<R: Files>(rt: &R, record: &str) -> Result<Option<u64>, DeviceFa
     }
 }
 
-/// Takes the lock of a record, looks at the record's stamp if it is asked for, and reads the record if it is short.
-/// Refuses folders, devices and pipes before it creates a lock. A nested builder doesn't look at the stamp, since the
-/// builder above it writes the record meanwhile.
-fn open_for_building<R: Files + Env + Clock + Eprint + AllocGlobal + Clone + Drop>(
+/// Takes the lock of a record. Refuses folders, devices and pipes before it creates a lock. If the record or its lock
+/// is missing and may not be created, no lock is taken, and the record is only read.
+fn lock_or_read<R: Files + Env + Clock + Eprint + AllocGlobal + Clone + Drop>(
     rt: &R,
     record: &str,
-    wants_stamp: bool,
+) -> Result<BuilderLock<R::File>, DeviceFault>
+where
+    R::File: Read + Write + Seek + OpenFile + SharedFile + Drop,
+{
+    match lock_of(rt, record) {
+        Err(DeviceFault::System(kind)) if is_unwritable(kind) => {
+            Ok(BuilderLock::reading(rt.alloc(), kind, time_now(rt)))
+        }
+        taken => taken,
+    }
+}
+
+/// Takes the lock of a record, and creates an empty record if it is missing.
+fn lock_of<R: Files + Env + Clock + Eprint + AllocGlobal + Clone + Drop>(
+    rt: &R,
+    record: &str,
+) -> Result<BuilderLock<R::File>, DeviceFault>
+where
+    R::File: Read + Write + Seek + OpenFile + SharedFile + Drop,
+{
+    drop(open_file(rt, record)?);
+    take_lock(rt, record)
+}
+
+/// Returns the time now as a stamp. Returns None if it isn't known.
+fn time_now<R: Clock>(rt: &R) -> Option<u64> {
+    let now = SystemTime::now(rt).ok()?;
+    let since = now.duration_since(UNIX_EPOCH).ok()?;
+    u64::try_from(since.as_nanos()).ok()
+}
+
+/// Looks at the stamp of a record, and reads the record if it is short. Takes no lock and creates nothing.
+fn open_for_reading<R: Files + Clock + Eprint + AllocGlobal>(
+    rt: &R,
+    record: &str,
+) -> Result<Opened<R::File>, DeviceFault>
+where
+    R::File: Read + Write + Seek + OpenFile + SharedFile + Drop,
+{
+    let lock = BuilderLock::reading(rt.alloc(), ErrorKind::PermissionDenied, time_now(rt));
+    let stamp = written_stamp(rt, record)?;
+    opened_with(rt, record, lock, stamp, is_long(rt, record))
+}
+
+/// Checks whether a record is so long that it isn't read when it is opened.
+fn is_long<R: Files>(rt: &R, record: &str) -> bool {
+    match fs::metadata(rt, record) {
+        Ok(found) => found.len() >= LONG,
+        Err(_) => false,
+    }
+}
+
+/// Reads a record unless it was found to be long.
+fn opened_with<R: Files + AllocGlobal>(
+    rt: &R,
+    record: &str,
+    lock: BuilderLock<R::File>,
+    stamp: Option<u64>,
+    is_long: bool,
 ) -> Result<Opened<R::File>, DeviceFault>
 where
     R::File: Read + Write + Seek + OpenFile + SharedFile + Drop,
 {
     let path = String::from_str(rt.alloc(), record)?;
-    let (found, _) = open_file(rt, record)?;
-    let is_long = found.metadata()?.len() >= LONG;
-    drop(found);
-    let lock = take_lock(rt, record)?;
-    let mut stamp = None;
-    if wants_stamp && lock.is_held() {
-        stamp = written_stamp(rt, record)?;
-    }
     let mut file = None;
     if !is_long {
         file = Some(open_locked(rt, record, &lock)?);
@@ -214,6 +310,25 @@ where
         stamp,
         file,
     })
+}
+
+/// Takes the lock of a record, looks at the record's stamp if it is asked for, and reads the record if it is short. A
+/// nested builder doesn't look at the stamp, since the builder above it writes the record meanwhile.
+fn open_for_building<R: Files + Env + Clock + Eprint + AllocGlobal + Clone + Drop>(
+    rt: &R,
+    record: &str,
+    wants_stamp: bool,
+) -> Result<Opened<R::File>, DeviceFault>
+where
+    R::File: Read + Write + Seek + OpenFile + SharedFile + Drop,
+{
+    let is_long = is_long(rt, record);
+    let lock = lock_or_read(rt, record)?;
+    let mut stamp = None;
+    if wants_stamp && (lock.is_held() || lock.unwritable().is_some()) {
+        stamp = written_stamp(rt, record)?;
+    }
+    opened_with(rt, record, lock, stamp, is_long)
 }
 
 impl<R: Files + Wait + Eprint + AllocGlobal, S> RealWorld<R, S>
@@ -348,28 +463,56 @@ where
     {
         let mut record = self.record.lock(&self.rt);
         let record = self.read_in(&mut record)?;
-        let begun = match &self.begins {
-            Some(begins) => self.begin_all(begins, record, outputs)?,
-            None => record.begin(self.rt.alloc(), outputs.row(0))?,
+        let begun = match self.begin_in(record, outputs) {
+            Ok(begun) => begun,
+            Err(fault) => {
+                self.say_unwritten(fault);
+                return Err(fault);
+            }
         };
+        if let Some(begins) = &self.begins {
+            self.add_begin(begins, record, outputs)?;
+        }
         self.ended.remove(&self.rt, outputs.row(0));
         Ok(begun)
     }
 
-    /// Appends the start entries of all outputs of an edge to the record, and adds the begin of its command to others.
-    fn begin_all<'a>(
+    /// Appends the start entries of an edge to the record. By the stricter rule these are entries of all its outputs,
+    /// after those of the outputs whose entries were ended.
+    fn begin_in<'a>(
         &self,
-        begins: &Begins,
         record: &mut RecordFile<R::File>,
         outputs: &'a RowList<u8>,
     ) -> Result<StartRecorded<'a>, DeviceFault>
         ensures { IfOk result (λ b. b ≡ get_or outputs.now 0 []) }
     {
-        self.end_in_record(record)?;
-        let begun = record.begin_all(self.rt.alloc(), outputs)?;
+        match &self.begins {
+            Some(_) => {
+                self.end_in_record(record)?;
+                record.begin_all(self.rt.alloc(), outputs)
+            }
+            None => record.begin(self.rt.alloc(), outputs.row(0)),
+        }
+    }
+
+    /// Adds the begin of the command of an edge, whose start entries were just written, to others. Marks its outputs for
+    /// ninja.
+    fn add_begin(
+        &self,
+        begins: &Begins,
+        record: &RecordFile<R::File>,
+        outputs: &RowList<u8>,
+    ) -> Result<(), DeviceFault> {
         begins.add(&self.rt, outputs.row(0), record.stamp()?)?;
-        begins.ninja_log().begin(&self.rt, outputs)?;
-        Ok(begun)
+        begins.ninja_log().begin(&self.rt, outputs)
+    }
+
+    /// Reports on standard error that an entry can't be written to the record, with the folder of the record.
+    fn say_unwritten(&self, fault: DeviceFault) {
+        match whole_path(&self.rt, self.path.as_str()) {
+            Ok(path) => say(&self.rt, "can't write", path.as_bytes(), fault),
+            Err(_) => say(&self.rt, "can't write", self.path.as_bytes(), fault),
+        }
     }
 
     /// Appends start entries for the outputs whose entries were ended for this build. When the record is written, its
