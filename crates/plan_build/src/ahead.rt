@@ -94,7 +94,10 @@ impl<
         );
         match read {
             Ok(()) => status,
-            Err(fault) => refuse_record(self.rt, self.errors, manifest_in(line), fault),
+            Err(fault) => {
+                let record = self.place.record();
+                refuse_record(self.rt, self.errors, manifest_in(line), record, fault)
+            }
         }
     }
 }

@@ -9,7 +9,8 @@ ghost use Rattle.plan_build.specs.Statuses as statuses;
 ghost use Rattle.plan_build.specs.Statuses.{Ended, HasUnknownTarget, SaysBuilt, as_build, display_in};
 
 use crate::ending::{end_build, may_run_others, no_work, note_restat};
-use crate::refusal::{UNKNOWN_TARGET, refuse, refuse_tool};
+use crate::record_place::{ManifestFiles, RecordPlace};
+use crate::refusal::{UNKNOWN_TARGET, refuse, refuse_moved, refuse_tool};
 use crate::watched_screen::{WatchedScreen, WriteWatcher};
 use crate::words::{is_quiet, manifest_in, style_in};
 use plan_build_tools::{Named, named_in};
@@ -17,7 +18,7 @@ use plan_commands::{Done, Listed, Order, Printer, do_build, do_dry_build};
 use plan_lanes::{Observing, World};
 use plan_machine::Options;
 use plan_options::CommandLine;
-use plan_printing::{FileSource, MANIFEST_BYTES, PlanFault, no_memory};
+use plan_printing::{PlanFault, no_memory};
 use plan_progress::{BuildLines, Counts, Display, Outputs, Stopwatch};
 use std::rt::Files;
 use std::sync::{Mutex, Wait};
@@ -35,6 +36,8 @@ pub struct Builder<'a, R, E, W, H> {
     pub errors: &'a E,
     /// The world that replies to the build's questions.
     pub world: &'a W,
+    /// The place of the record that the world has.
+    pub place: &'a RecordPlace,
     /// The outputs of commands that aren't shown yet, and the time.
     pub outputs: &'a H,
     /// Whether standard output is a terminal on which lines are written over.
@@ -55,6 +58,7 @@ impl<'a, R, E, W, H> Builder<'a, R, E, W, H> {
         rt: &'a R,
         errors: &'a E,
         world: &'a W,
+        place: &'a RecordPlace,
         outputs: &'a H,
         on_terminal: bool,
         colours: bool,
@@ -66,6 +70,7 @@ impl<'a, R, E, W, H> Builder<'a, R, E, W, H> {
             rt,
             errors,
             world,
+            place,
             outputs,
             on_terminal,
             colours,
@@ -89,6 +94,7 @@ impl<'a, R, E, W, H> Builder<'a, R, E, W, H> {
             rt: here.rt,
             errors: here.errors,
             world,
+            place: here.place,
             outputs: here.outputs,
             on_terminal: here.on_terminal,
             colours: here.colours,
@@ -139,7 +145,7 @@ impl<
             options,
             targets,
         };
-        let mut manifests = FileSource::new(rt, MANIFEST_BYTES);
+        let mut manifests = ManifestFiles::new(rt, order.manifest, self.place);
         let printer = self.printer(line);
         let (done, printer) = do_build(
             rt,
@@ -175,7 +181,7 @@ impl<
             options,
             targets,
         };
-        let mut manifests = FileSource::new(rt, MANIFEST_BYTES);
+        let mut manifests = ManifestFiles::new(rt, order.manifest, self.place);
         let printer = self.printer(line);
         let (done, printer, listed) = do_dry_build(
             rt,
@@ -218,6 +224,11 @@ impl<
     {
         let manifest = manifest_in(line);
         match done {
+            Err(_) if self.place.has_moved() => refuse_moved(
+                self.rt.alloc(),
+                self.errors,
+                manifest,
+            ),
             Ok(done) => {
                 let allowed = line.failures();
                 end_build(self.rt, self.errors, manifest, allowed, failed, done)

@@ -3,10 +3,12 @@
 #![tactic(auto)]
 
 mod ahead;
+mod builddir;
 mod building;
 mod ending;
 mod held_outputs;
 mod pointing;
+mod record_place;
 mod refusal;
 mod sentences;
 mod shells;
@@ -19,6 +21,7 @@ mod words;
 use crate::ahead::RecordedWorld;
 use crate::building::Builder;
 use crate::held_outputs::HeldOutputs;
+use crate::record_place::RecordPlace;
 use crate::refusal::{refuse, refuse_loading, refuse_record, refuse_tool};
 use crate::shells::{BuildShells, is_smart_terminal, shares_terminal, wants_escapes};
 use crate::stopping::{stop_at, warn};
@@ -125,9 +128,48 @@ fn missing<R: Files>(rt: &R, manifest: &[u8]) -> Option<ErrorKind> {
 /// The world of real files and commands.
 type SystemWorld<'a> = RealWorld<HostRuntime, BuildShells<'a, HostRuntime>>;
 
-/// Opens the world of real files and commands, with the record in the folder of the build. If the manifest is missing,
-/// no record is created. The outputs of commands are held in `outputs`. `watcher` stops them if this builder ends
-/// early.
+/// Finds the place of the record of a manifest.
+///
+/// # Errors
+/// The exit status if the manifest is missing or refused. The reason is reported on standard error.
+fn place_of<R: Files + Eprint + AllocGlobal, E: Print>(
+    rt: &R,
+    errors: &E,
+    manifest: &[u8],
+) -> Result<RecordPlace, u8> {
+    if let Some(kind) = missing(rt, manifest) {
+        return Err(refuse_loading(rt.alloc(), errors, manifest, kind));
+    }
+    match RecordPlace::of(rt, manifest) {
+        Ok(place) => Ok(place),
+        Err(fault) => Err(refuse(rt, errors, manifest, &fault)),
+    }
+}
+
+/// Checks whether a command line asks for no more than which commands would run.
+fn only_reads(line: &CommandLine) -> bool {
+    line.is_dry_run() || asks_for_reasons(line)
+}
+
+/// Creates the folder of the record, and takes over the record of earlier builds that were in another folder.
+///
+/// # Errors
+/// The exit status if the folder can't be created or the manifest is refused. The reason is reported on standard error.
+fn prepare<E: Print>(
+    rt: &HostRuntime,
+    errors: &E,
+    manifest: &[u8],
+    place: &RecordPlace,
+) -> Result<(), u8> {
+    place.create_folder(rt, errors)?;
+    match place.take_over(rt, manifest) {
+        Ok(()) => Ok(()),
+        Err(fault) => Err(refuse(rt, errors, manifest, &fault)),
+    }
+}
+
+/// Opens the world of real files and commands, with the record at its place. The outputs of commands are held in
+/// `outputs`. `watcher` stops them if this builder ends early. A dry build only reads the record.
 ///
 /// # Errors
 /// The exit status if the world can't be opened. The reason is reported on standard error.
@@ -135,14 +177,12 @@ fn open_world<'a, E: Print>(
     rt: &HostRuntime,
     errors: &E,
     line: &CommandLine,
+    place: &RecordPlace,
     outputs: &'a HeldOutputs<'a, HostRuntime>,
     watcher: &'a Watcher,
 ) -> Result<SystemWorld<'a>, u8> {
     let alloc = rt.alloc();
     let manifest = manifest_in(line);
-    if let Some(kind) = missing(rt, manifest) {
-        return Err(refuse_loading(alloc, errors, manifest, kind));
-    }
     let own: Result<HostRuntime, AllocError> = rt.clone();
     let other: Result<HostRuntime, AllocError> = rt.clone();
     let (Ok(own), Ok(other)) = (own, other) else {
@@ -156,9 +196,15 @@ fn open_world<'a, E: Print>(
         shares_terminal(rt),
         watcher,
     );
-    match RealWorld::open_stricter(own, shells, RECORD) {
+    let opened = if only_reads(line) {
+        RealWorld::open_reading(own, shells, place.record_to_read(rt))
+    } else {
+        prepare(rt, errors, manifest, place)?;
+        RealWorld::open_stricter(own, shells, place.record())
+    };
+    match opened {
         Ok(world) => Ok(world),
-        Err(fault) => Err(refuse_record(rt, errors, manifest, fault)),
+        Err(fault) => Err(refuse_record(rt, errors, manifest, place.record(), fault)),
     }
 }
 
@@ -215,13 +261,32 @@ fn check_no_targets<E: Print>(alloc: Global, errors: &E, targets: &[&[u8]]) -> R
     Ok(())
 }
 
+/// Checks whether a tool uses the record.
+fn uses_record(tool: Tool) -> bool {
+    matches!(tool, Tool::Recompact | Tool::Restat | Tool::CleanDead)
+}
+
 /// Runs the tool of a request, and returns the exit status. Reports why the tool is refused, if it is.
 fn answer<E: Print>(rt: &HostRuntime, errors: &E, line: &CommandLine, request: &Request<'_>) -> u8 {
+    if !uses_record(request.tool) {
+        return answer_with(rt, errors, line, request, RECORD);
+    }
+    match place_of(rt, errors, manifest_in(line)) {
+        Ok(place) => answer_with(rt, errors, line, request, place.record_to_read(rt)),
+        Err(status) => status,
+    }
+}
+
+/// Runs the tool of a request like `answer`, with the record at a path.
+fn answer_with<E: Print>(
+    rt: &HostRuntime,
+    errors: &E,
+    line: &CommandLine,
+    request: &Request<'_>,
+    record: &str,
+) -> u8 {
     let manifest = manifest_in(line);
-    let files = BuildFiles {
-        manifest,
-        record: RECORD,
-    };
+    let files = BuildFiles { manifest, record };
     match run_tool(rt, errors, files, manner_in(line), request) {
         Ok(status) => status,
         Err(fault) => refuse_tool(rt, errors, manifest, &fault),
@@ -390,7 +455,11 @@ fn main(rt: HostRuntime) -> ExitCode {
     };
     let outputs = HeldOutputs::new(rt.alloc(), &rt);
     let watcher = Watcher::new();
-    let world = match open_world(&rt, &errors, &line, &outputs, &watcher) {
+    let place = match place_of(&rt, &errors, manifest_in(&line)) {
+        Ok(place) => place,
+        Err(status) => return ExitCode::from(status),
+    };
+    let world = match open_world(&rt, &errors, &line, &place, &outputs, &watcher) {
         Ok(world) => world,
         Err(status) => return ExitCode::from(status),
     };
@@ -403,6 +472,7 @@ fn main(rt: HostRuntime) -> ExitCode {
         &rt,
         &errors,
         &world,
+        &place,
         &outputs,
         is_smart_terminal(&rt),
         wants_escapes(&rt),

@@ -4,7 +4,6 @@ ghost use Rattle.std.specs.Prelude.{◌≡◌};
 
 use crate::pointing::{Message, Place, error_text, place_in};
 use crate::sentences::{advice_for, sentence_of};
-use crate::words::RECORD;
 use plan_build_tools::ToolFault;
 use plan_printing::{
     LOST_OUTPUT, NO_ROOM, PlanFault, REFUSED, complain, complain_of, concatenate, file_fault,
@@ -180,18 +179,35 @@ pub fn refuse_tool<R: Files + Eprint + AllocGlobal, E: Print>(
     }
 }
 
-/// Reports that the record can't be used, and returns the exit status.
+/// Reports that a manifest has another `builddir` than before it was remade, and returns the exit status.
+pub fn refuse_moved<E: Print>(alloc: Global, errors: &E, manifest: &[u8]) -> u8
+    ensures { result ≡ 1 }
+{
+    complain(
+        alloc,
+        errors,
+        &[
+            b"ninja: error: '",
+            manifest,
+            b"' has another builddir than before, with another build record; build again\n",
+        ],
+    );
+    REFUSED
+}
+
+/// Reports that the record at a path can't be used, and returns the exit status.
 pub fn refuse_record<R: Files + Eprint + AllocGlobal, E: Print>(
     rt: &R,
     errors: &E,
     manifest: &[u8],
+    record: &str,
     fault: OpenFault,
 ) -> u8
     ensures { result ≡ 1 }
 {
     let fault = match fault {
         OpenFault::Memory => no_memory(rt.alloc()),
-        OpenFault::Device => file_fault(rt.alloc(), RECORD.as_bytes()),
+        OpenFault::Device => file_fault(rt.alloc(), record.as_bytes()),
     };
     refuse(rt, errors, manifest, &fault)
 }
