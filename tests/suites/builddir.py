@@ -290,6 +290,8 @@ def tools(builder: str, folder: pathlib.Path) -> None:
     expect("cleandead", 0, says(builder, folder, "-t", "cleandead")[2])
     expect("dead and living", (False, True), ((folder / "p").exists(), (folder / "o").exists()))
     expect("files", [f"b/{RECORD}", f"b/{RECORD}.lock"], made(folder))
+    (folder / "build.ninja").unlink()
+    expect("restat without a manifest", ("", "", 0), says(builder, folder, "-t", "restat"))
 
 
 def not_a_folder(builder: str, folder: pathlib.Path) -> None:
@@ -496,8 +498,8 @@ def cases(setting: Setting) -> Iterator[Case]:
     for name in BOUND:
         yield Case(name, functools.partial(bound, name, builder))
     checks: Sequence[Callable[[str, pathlib.Path], None]] = (
-        far, two_manifests, taken_over, parted, killed, switched, nested, remade, unchanged, tools, not_a_folder, lost_output,
-        unmarked, reads_torn, reads_the_future)
+        far, two_manifests, taken_over, parted, killed, switched, nested, remade, unchanged, tools, not_a_folder,
+        lost_output, unmarked, reads_torn, reads_the_future)
     for one in checks:
         yield Case(one.__name__, functools.partial(one, builder))
     for seed in range(setting.seed, setting.seed + 3):

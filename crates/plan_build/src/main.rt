@@ -268,10 +268,11 @@ fn uses_record(tool: Tool) -> bool {
 
 /// Runs the tool of a request, and returns the exit status. Reports why the tool is refused, if it is.
 fn answer<E: Print>(rt: &HostRuntime, errors: &E, line: &CommandLine, request: &Request<'_>) -> u8 {
-    if !uses_record(request.tool) {
+    let manifest = manifest_in(line);
+    if !uses_record(request.tool) || missing(rt, manifest).is_some() {
         return answer_with(rt, errors, line, request, RECORD);
     }
-    match place_of(rt, errors, manifest_in(line)) {
+    match place_of(rt, errors, manifest) {
         Ok(place) => answer_with(rt, errors, line, request, place.record_to_read(rt)),
         Err(status) => status,
     }
