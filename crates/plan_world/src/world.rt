@@ -232,32 +232,35 @@ fn written_stamp<R: Files>(rt: &R, record: &str) -> Result<Option<u64>, DeviceFa
 }
 
 /// Takes the lock of a record. Refuses folders, devices and pipes before it creates a lock. If the record or its lock
-/// is missing and may not be created, no lock is taken, and the record is only read.
+/// is missing and may not be created, no lock is taken, and the record is only read. Also returns whether the record was
+/// long.
 fn lock_or_read<R: Files + Env + Clock + Eprint + AllocGlobal + Clone + Drop>(
     rt: &R,
     record: &str,
-) -> Result<BuilderLock<R::File>, DeviceFault>
+) -> Result<(BuilderLock<R::File>, bool), DeviceFault>
 where
     R::File: Read + Write + Seek + OpenFile + SharedFile + Drop,
 {
     match lock_of(rt, record) {
         Err(DeviceFault::System(kind)) if is_unwritable(kind) => {
-            Ok(BuilderLock::reading(rt.alloc(), kind, time_now(rt)))
+            Ok((BuilderLock::reading(rt.alloc(), kind, time_now(rt)), false))
         }
         taken => taken,
     }
 }
 
-/// Takes the lock of a record, and creates an empty record if it is missing.
+/// Takes the lock of a record, and creates an empty record if it is missing. Also returns whether the record was long.
 fn lock_of<R: Files + Env + Clock + Eprint + AllocGlobal + Clone + Drop>(
     rt: &R,
     record: &str,
-) -> Result<BuilderLock<R::File>, DeviceFault>
+) -> Result<(BuilderLock<R::File>, bool), DeviceFault>
 where
     R::File: Read + Write + Seek + OpenFile + SharedFile + Drop,
 {
-    drop(open_file(rt, record)?);
-    take_lock(rt, record)
+    let (found, _) = open_file(rt, record)?;
+    let is_long = found.metadata()?.len() >= LONG;
+    drop(found);
+    Ok((take_lock(rt, record)?, is_long))
 }
 
 /// Returns the time now as a stamp. Returns None if it isn't known.
@@ -322,8 +325,7 @@ fn open_for_building<R: Files + Env + Clock + Eprint + AllocGlobal + Clone + Dro
 where
     R::File: Read + Write + Seek + OpenFile + SharedFile + Drop,
 {
-    let is_long = is_long(rt, record);
-    let lock = lock_or_read(rt, record)?;
+    let (lock, is_long) = lock_or_read(rt, record)?;
     let mut stamp = None;
     if wants_stamp && (lock.is_held() || lock.unwritable().is_some()) {
         stamp = written_stamp(rt, record)?;
