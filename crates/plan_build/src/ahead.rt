@@ -14,7 +14,7 @@ use plan_stamps::StampCache;
 use plan_world::{OpenFault, RealWorld, SharedFile};
 use std::fs::OpenFile;
 use std::io::{Read, Seek, Write};
-use std::rt::Files;
+use std::rt::{Clock, Files};
 use std::sync::Wait;
 use std::sync::atomic::{AtomicBool, Ordering};
 use std::thread::{self, Threads};
@@ -67,7 +67,7 @@ fn look_ahead<R: Threads + Wait + Sync, W: World + RecordedWorld + Send + Sync>(
 }
 
 impl<
-    R: Threads + Wait + Sync + Files + Print + Eprint + AllocGlobal,
+    R: Threads + Wait + Sync + Files + Print + Eprint + Clock + AllocGlobal,
     E: Print,
     W: World + RecordedWorld + Send + Sync,
     H: Outputs + Stopwatch + WriteWatcher + Sync,

@@ -20,7 +20,7 @@ use plan_machine::Options;
 use plan_options::CommandLine;
 use plan_printing::{PlanFault, no_memory};
 use plan_progress::{BuildLines, Counts, Display, Outputs, Stopwatch};
-use std::rt::Files;
+use std::rt::{Clock, Files};
 use std::sync::{Mutex, Wait};
 use std::thread::{Parker, Threads};
 
@@ -106,7 +106,7 @@ impl<'a, R, E, W, H> Builder<'a, R, E, W, H> {
 }
 
 impl<
-    R: Threads + Wait + Sync + Files + Print + Eprint + AllocGlobal,
+    R: Threads + Wait + Sync + Files + Print + Eprint + Clock + AllocGlobal,
     E: Print,
     W: World + Send + Sync,
     H: Outputs + Stopwatch + WriteWatcher + Sync,

@@ -7,6 +7,7 @@ use plan_commands::{Done, Listed};
 use plan_printing::{complain, complain_of, digits_in, say, status_after};
 use plan_progress::Counts;
 use std::alloc::{AllocError, Global};
+use std::rt::Clock;
 
 /// ninja's words for a manifest that is still dirty after 100 tries.
 const TRIES: &[u8] = b"100 tries, perhaps system time is not set";
@@ -77,14 +78,14 @@ pub fn note_restat<E: Print>(alloc: Global, errors: &E, restat: u64) {
 }
 
 /// Prints that there is nothing to do, and returns the exit status: 0, or 1 if the line can't be written.
-pub fn no_work<R: Print + AllocGlobal, E: Print>(rt: &R, errors: &E) -> u8 {
+pub fn no_work<R: Print + Clock + AllocGlobal, E: Print>(rt: &R, errors: &E) -> u8 {
     status_after(say(rt, errors, &[b"ninja: no work to do.\n"]), 0)
 }
 
 /// Prints how the build of a manifest ended, in ninja's words. `allowed` is the value of `-k`, and `failed` the number
 /// of edges that failed. Returns the exit status of the build, or 1 if `no work to do` can't be written. That failure
 /// is reported on standard error.
-pub fn end_build<R: Print + AllocGlobal, E: Print>(
+pub fn end_build<R: Print + Clock + AllocGlobal, E: Print>(
     rt: &R,
     errors: &E,
     manifest: &[u8],

@@ -133,6 +133,11 @@ impl<R: Wait + Clock> HeldOutputs<'_, R> {
         held.put(edge, text)
     }
 
+    /// Checks whether a write to standard output failed. If so, no further command begins.
+    pub fn has_failed(&self) -> bool {
+        self.held.lock(self.rt).failed
+    }
+
     /// Waits until the label of a console command was written, or a write failed, but at most for `LABEL_WAIT`.
     pub fn wait_for_label(&self, edge: &[u8]) {
         let held = self.held.lock(self.rt);

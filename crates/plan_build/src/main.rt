@@ -34,7 +34,9 @@ use crate::words::{
 use plan_build_tools::{BuildFiles, Request, Tool, request_in, run_tool, tool_named, unknown_tool};
 use plan_lanes::World;
 use plan_options::{CommandLine, Setting};
-use plan_printing::{REFUSED, complain, complain_of, no_memory, open_streams, reason_of, say};
+use plan_printing::{
+    ErrorStream, REFUSED, complain, complain_of, no_memory, open_streams, reason_of, say,
+};
 use plan_progress::{Outputs, Stopwatch};
 use plan_stamps::StampCache;
 use plan_world::RealWorld;
@@ -42,7 +44,7 @@ use std::alloc::{AllocError, Global};
 use std::io::ErrorKind;
 use std::mem::forget;
 use std::process::ExitCode;
-use std::rt::{Env, Files};
+use std::rt::{Clock, Env, Files};
 use std::sync::Wait;
 use std::thread::Threads;
 use std::{env, fs, str, thread};
@@ -84,7 +86,7 @@ fn threads_ahead<R: Threads + AllocGlobal>(rt: &R, line: &CommandLine, jobs: u8)
 ///
 /// # Errors
 /// The exit status if the change or the output fails. The reason is reported on standard error.
-fn enter<R: Env + Print + Eprint + AllocGlobal, E: Print>(
+fn enter<R: Env + Print + Eprint + Clock + AllocGlobal, E: Print>(
     rt: &R,
     errors: &E,
     line: &CommandLine,
@@ -343,7 +345,7 @@ fn check_reasons<E: Print>(rt: &HostRuntime, errors: &E, line: &CommandLine) -> 
 ///
 /// # Errors
 /// The exit status if an argument ends the program or memory runs out. The answer or the reason was printed.
-fn read_line<R: Files + Print + Eprint + AllocGlobal, E: Print>(
+fn read_line<R: Files + Print + Eprint + Clock + AllocGlobal, E: Print>(
     rt: &R,
     errors: &E,
     words: &[String],
@@ -395,7 +397,7 @@ fn order_in<E: Print>(rt: &HostRuntime, errors: &E, jobs: u8) -> Result<CommandL
 /// Explains or builds what a command line asks for, and returns the exit status. If the build is likely to be long,
 /// threads ask for stamps ahead.
 fn build<
-    R: Threads + Wait + Sync + Files + Print + Eprint + AllocGlobal,
+    R: Threads + Wait + Sync + Files + Print + Eprint + Clock + AllocGlobal,
     E: Print,
     W: World + RecordedWorld + Send + Sync,
     H: Outputs + Stopwatch + WriteWatcher + Sync,
@@ -436,7 +438,7 @@ fn main(rt: HostRuntime) -> ExitCode {
     if has_stopped_commands(&rt) {
         return ExitCode::from(0);
     }
-    let errors = rt.stderr();
+    let errors = ErrorStream::new(&rt, rt.stderr());
     let Ok(_streams) = open_streams(&rt) else {
         complain(
             rt.alloc(),

@@ -6,7 +6,7 @@ use plan_output::{shown_output, signal_line};
 use plan_printing::concatenate;
 use plan_world::{Printed, Shells, SystemShells};
 use std::alloc::{AllocError, Global};
-use std::io::{self, IsTerminal};
+use std::io::{self, ErrorKind, IsTerminal};
 use std::os::unix::process::ExitStatusExt;
 use std::process::{Command, ExitStatus, Processes};
 use std::rt::{Clock, Env, Files};
@@ -57,6 +57,20 @@ fn add_signal(text: &mut Vec<u8>, status: &ExitStatus) -> Result<(), AllocError>
     }
 }
 
+impl<R: Wait + Clock> BuildShells<'_, R> {
+    /// Checks that a command may begin: standard output can be written. If nobody reads it any more, the build stops as
+    /// it does after failed commands.
+    ///
+    /// # Errors
+    /// `BrokenPipe` if a write to standard output failed.
+    fn check_output(&self) -> io::Result<()> {
+        if self.outputs.has_failed() {
+            return Err(io::Error::from(ErrorKind::BrokenPipe));
+        }
+        Ok(())
+    }
+}
+
 /// The text that is shown instead of a reason that isn't UTF-8.
 const NOT_SHOWN: &str = "ninja explain: a path that isn't UTF-8\n";
 
@@ -89,6 +103,7 @@ impl<R: Processes + Files + Wait + Clock + Eprint + AllocGlobal> Shells for Buil
     }
 
     fn output(&self, shell: Command, edge: &[u8]) -> io::Result<Printed> {
+        self.check_output()?;
         self.watcher.begin(self.shells.runtime(), &shell);
         let Printed { status, text } = self.shells.output(shell, edge)?;
         let mut text = shown_output(self.alloc, text, self.escapes)?;
@@ -106,6 +121,7 @@ impl<R: Processes + Files + Wait + Clock + Eprint + AllocGlobal> Shells for Buil
     }
 
     fn status(&self, shell: Command) -> io::Result<ExitStatus> {
+        self.check_output()?;
         self.watcher.begin(self.shells.runtime(), &shell);
         self.shells.status(shell)
     }

@@ -6,6 +6,7 @@ use plan_options::{
 use plan_printing::{REFUSED, complain, concatenate, digits_in, say, status_after};
 use plan_text::Memory;
 use std::alloc::{AllocError, Global};
+use std::rt::Clock;
 
 /// The ninja version that `--version` prints. From 1.10 on, other programs would use dyndep, which isn't supported.
 const VERSION: &[u8] = b"1.9.0\n";
@@ -172,7 +173,7 @@ fn refuse_value<E: Print>(alloc: Global, errors: &E, stop: Stop, value: &[u8]) {
 }
 
 /// Prints the answer to an argument that ends the program, or reports why it is refused. Returns the exit status.
-pub fn stop_at<R: Print + AllocGlobal, E: Print>(
+pub fn stop_at<R: Print + Clock + AllocGlobal, E: Print>(
     rt: &R,
     errors: &E,
     program: &[u8],

@@ -2,9 +2,9 @@
 
 ghost use Rattle.std.specs.Prelude.{◌≡◌};
 
+use plan_printing::write_whole;
 use plan_text::{GhostCounter, Sink, SinkFault};
-use std::io;
-use std::io::Write;
+use std::rt::Clock;
 use std::sync::{Mutex, Wait};
 
 /// Gets notified when a write begins, and when it has ended.
@@ -26,7 +26,7 @@ pub struct WatchedScreen<'a, R, H> {
     failures: GhostCounter,
 }
 
-impl<'a, R: Print + Wait, H: WriteWatcher> WatchedScreen<'a, R, H> {
+impl<'a, R: Print + Wait + Clock, H: WriteWatcher> WatchedScreen<'a, R, H> {
     /// Creates a sink for the standard output of a runtime. Holds the lock during each write.
     pub fn new(rt: &'a R, lock: &'a Mutex<()>, watcher: &'a H) -> WatchedScreen<'a, R, H>
         ensures { result.failures.count ≡ 0 }
@@ -40,7 +40,7 @@ impl<'a, R: Print + Wait, H: WriteWatcher> WatchedScreen<'a, R, H> {
     }
 }
 
-impl<R: Print + Wait, H: WriteWatcher> Sink for WatchedScreen<'_, R, H> {
+impl<R: Print + Wait + Clock, H: WriteWatcher> Sink for WatchedScreen<'_, R, H> {
     ghost use Rattle.std.specs.Prelude.{None};
 
     ghost failures = { λ s. s.failures.count };
@@ -50,7 +50,7 @@ impl<R: Print + Wait, H: WriteWatcher> Sink for WatchedScreen<'_, R, H> {
     fn write(&mut self, bytes: &[u8]) -> Result<usize, SinkFault> {
         self.watcher.begin_write();
         let guard = self.lock.lock(self.rt);
-        let written = io::writer(self.rt).write_all(bytes);
+        let written = write_whole(self.rt, self.rt, bytes);
         drop(guard);
         self.watcher.end_write(written.is_ok());
         match written {

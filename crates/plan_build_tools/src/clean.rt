@@ -15,7 +15,7 @@ use plan_tools::{
 };
 use std::alloc::{AllocError, Global};
 use std::io::{self, ErrorKind};
-use std::rt::Files;
+use std::rt::{Clock, Files};
 use std::{fs, str};
 
 /// The size of the output buffer in bytes.
@@ -330,7 +330,7 @@ impl Removal {
 }
 
 /// Removes the files of batches, and prints the lines on them to standard output. Returns the exit status.
-fn remove_printing<R: Files + Print + AllocGlobal, E: Print>(
+fn remove_printing<R: Files + Print + Clock + AllocGlobal, E: Print>(
     rt: &R,
     errors: &E,
     manner: Manner,
@@ -351,7 +351,7 @@ fn remove_printing<R: Files + Print + AllocGlobal, E: Print>(
 /// # Errors
 /// If the manifest or a word is refused. Then nothing is removed. If memory runs out or standard output can't be
 /// written. Then files may have been removed.
-pub fn clean<R: Files + Print + Eprint + AllocGlobal, E: Print>(
+pub fn clean<R: Files + Print + Eprint + Clock + AllocGlobal, E: Print>(
     rt: &R,
     errors: &E,
     manifest: &[u8],
@@ -369,7 +369,7 @@ pub fn clean<R: Files + Print + Eprint + AllocGlobal, E: Print>(
 ///
 /// # Errors
 /// If memory runs out or standard output can't be written. Then files may have been removed.
-pub fn remove_files<R: Files + Print + Eprint + AllocGlobal, E: Print>(
+pub fn remove_files<R: Files + Print + Eprint + Clock + AllocGlobal, E: Print>(
     rt: &R,
     errors: &E,
     manner: Manner,

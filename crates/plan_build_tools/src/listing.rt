@@ -16,7 +16,7 @@ use plan_tools::{
 };
 use std::alloc::Global;
 use std::env;
-use std::rt::{Env, Files};
+use std::rt::{Clock, Env, Files};
 
 /// The size of the output buffer in bytes.
 const OUTPUT_BUFFER: usize = 65_536;
@@ -184,7 +184,7 @@ fn write_listing<R: Env + AllocGlobal, W: Sink>(
 }
 
 /// Prints the listing of a tool to standard output. Returns the exit status.
-fn print_listing<R: Files + Env + Print + AllocGlobal>(
+fn print_listing<R: Files + Env + Print + Clock + AllocGlobal>(
     rt: &R,
     loaded: &Loaded,
     request: &Request<'_>,
@@ -201,7 +201,7 @@ fn print_listing<R: Files + Env + Print + AllocGlobal>(
 ///
 /// # Errors
 /// If the manifest or a word is refused, memory runs out, or standard output can't be written.
-pub fn list<R: Files + Env + Print + Eprint + AllocGlobal>(
+pub fn list<R: Files + Env + Print + Eprint + Clock + AllocGlobal>(
     rt: &R,
     manifest: &[u8],
     request: &Request<'_>,

@@ -10,6 +10,7 @@ use crate::words::Request;
 use plan_printing::{REFUSED, complain, say, status_after};
 use plan_tools::closest;
 use std::alloc::Global;
+use std::rt::Clock;
 
 /// A tool of ninja that this program has.
 #[derive(Clone, Copy, PartialEq, Eq)]
@@ -141,7 +142,7 @@ pub fn unknown_tool<E: Print>(alloc: Global, errors: &E, name: &[u8]) -> u8
 }
 
 /// Prints the list of tools, and returns the exit status.
-fn list_tools<R: Print + AllocGlobal, E: Print>(rt: &R, errors: &E) -> u8 {
+fn list_tools<R: Print + Clock + AllocGlobal, E: Print>(rt: &R, errors: &E) -> u8 {
     let mut lines: [&[u8]; 9] = [b"ninja subtools:\n"; 9];
     for at in 0..TOOLS.len() {
         lines[at + 1] = TOOLS[at].line();

@@ -5,6 +5,7 @@ use plan_options::{operands, option_letters};
 use plan_printing::{REFUSED, complain, say, status_after};
 use plan_text::Memory;
 use std::alloc::Global;
+use std::rt::Clock;
 
 const CLEAN_USAGE: &[u8] = b"usage: ninja -t clean [options] [targets]
 
@@ -115,7 +116,12 @@ fn stop_in(request: &Request<'_>) -> Option<u8> {
 }
 
 /// Prints the usage of a tool, and returns the exit status. If the letter isn't `h`, first reports it as invalid.
-fn show_usage<R: Print + AllocGlobal, E: Print>(rt: &R, errors: &E, tool: Tool, letter: u8) -> u8 {
+fn show_usage<R: Print + Clock + AllocGlobal, E: Print>(
+    rt: &R,
+    errors: &E,
+    tool: Tool,
+    letter: u8,
+) -> u8 {
     if letter != b'h' {
         let alloc = rt.alloc();
         let name = tool.name();
@@ -147,7 +153,7 @@ fn refuse_name<'a, E: Print>(alloc: Global, errors: &E, tool: &'a [u8], name: &'
 ///
 /// # Errors
 /// The exit status if the tool does nothing. The usage or the reason was printed.
-pub fn request_in<'a, R: Print + AllocGlobal, E: Print>(
+pub fn request_in<'a, R: Print + Clock + AllocGlobal, E: Print>(
     rt: &R,
     errors: &E,
     tool: Tool,

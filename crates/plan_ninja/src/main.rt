@@ -18,7 +18,7 @@ use plan_world::{OpenFault, RealWorld, SystemShells};
 use std::alloc::{AllocError, Global};
 use std::mem::forget;
 use std::process::ExitCode;
-use std::rt::Files;
+use std::rt::{Clock, Files};
 use std::sync::{Mutex, Wait};
 use std::thread::{Parker, Threads, join};
 
@@ -73,7 +73,7 @@ fn answer<R: Files + Eprint + AllocGlobal, W: Sink>(
 }
 
 /// Prints the result of a request, and returns the exit status.
-fn print<R: Files + Print + Eprint + AllocGlobal>(
+fn print<R: Files + Print + Eprint + Clock + AllocGlobal>(
     rt: &R,
     request: FileRequest<'_>,
 ) -> Result<u8, PlanFault> {
@@ -158,7 +158,7 @@ fn world_at(rt: &HostRuntime, record: &str) -> Result<SystemWorld, PlanFault> {
 
 /// Runs an image in a world, and returns the exit status.
 fn run_image<
-    R: Threads + Wait + Sync + Files + Print + Eprint + AllocGlobal,
+    R: Threads + Wait + Sync + Files + Print + Eprint + Clock + AllocGlobal,
     W: World + Send + Sync,
 >(
     rt: &R,

@@ -6,6 +6,8 @@
 //! - `Standard`, `Screen`: standard output for one thread, and for several threads. `Buffer`: a sink that buffers bytes
 //!   for another sink. `ended` finishes the output of a command. `open_streams`: opens the standard streams that are
 //!   closed when the program starts.
+//! - `write_whole`: writes to a stream that may be in non-blocking mode. `ErrorStream`: standard error, written this
+//!   way.
 //! - `FileSource`, `NewFile`: the files of the system.
 //! - `say`, `complain`, `complain_of`: print lines of plan_build, and its error messages. `reason_of` has the system's
 //!   words for an error of a file.
@@ -18,6 +20,7 @@ mod files;
 mod graph_fault;
 mod said;
 mod screen;
+mod waiting;
 
 pub use fault::{
     PlanFault, file_fault, lost_output, no_memory, output_fault, printed_fault, unknown_target,
@@ -30,3 +33,4 @@ pub use said::{
     status_after,
 };
 pub use screen::{Buffer, Screen, Standard, ended, open_streams};
+pub use waiting::{ErrorStream, write_whole};

@@ -2,9 +2,10 @@
 
 ghost use Rattle.std.specs.Prelude.{◌≡◌, IfErr, OnOk};
 
+use crate::waiting::write_whole;
 use std::alloc::{AllocError, Global};
-use std::io;
-use std::io::{ErrorKind, Write};
+use std::io::ErrorKind;
+use std::rt::Clock;
 
 /// The exit status of plan_build if the command line or a manifest is refused, or if a build fails.
 pub const REFUSED: u8 = 1;
@@ -59,12 +60,16 @@ pub fn complain_of<'a, E: Print>(
 ///
 /// # Errors
 /// The exit status 1 if the texts can't be written. The reason is reported on standard error.
-pub fn say<R: Print + AllocGlobal, E: Print>(rt: &R, errors: &E, parts: &[&[u8]]) -> Result<(), u8>
+pub fn say<R: Print + Clock + AllocGlobal, E: Print>(
+    rt: &R,
+    errors: &E,
+    parts: &[&[u8]],
+) -> Result<(), u8>
     ensures { IfErr result (λ status. status ≡ 1) }
 {
     let alloc = rt.alloc();
     let written = match concatenate(alloc, parts) {
-        Ok(text) => io::writer(rt).write_all(&text).is_ok(),
+        Ok(text) => write_whole(rt, rt, &text).is_ok(),
         Err(_) => false,
     };
     if written {

@@ -6,12 +6,13 @@ ghost use Rattle.plan_printing.specs.Buffers.{buffered, seen};
 ghost use Rattle.plan_printing.specs.Faults as defined;
 
 use crate::fault::{PlanFault, lost_output};
+use crate::waiting::write_whole;
 use plan_text::{GhostCounter, Sink, SinkFault};
 use std::alloc::Global;
 use std::fs::File;
-use std::io::Write;
 use std::marker::Model;
 use std::os::fd::AsRawFd;
+use std::rt::Clock;
 use std::sync::{Mutex, Wait};
 use std::{fs, io};
 
@@ -24,7 +25,7 @@ pub struct Screen<'a, R> {
     failures: GhostCounter,
 }
 
-impl<'a, R: Print + Wait> Screen<'a, R> {
+impl<'a, R: Print + Wait + Clock> Screen<'a, R> {
     /// Creates a sink for the standard output of a runtime. Holds the lock during each write.
     pub fn new(rt: &'a R, lock: &'a Mutex<()>) -> Screen<'a, R>
         ensures { result.failures.count ≡ 0 }
@@ -37,7 +38,7 @@ impl<'a, R: Print + Wait> Screen<'a, R> {
     }
 }
 
-impl<R: Print + Wait> Sink for Screen<'_, R> {
+impl<R: Print + Wait + Clock> Sink for Screen<'_, R> {
     ghost use Rattle.std.specs.Prelude.{None};
 
     ghost failures = { λ s. s.failures.count };
@@ -46,7 +47,7 @@ impl<R: Print + Wait> Sink for Screen<'_, R> {
 
     fn write(&mut self, bytes: &[u8]) -> Result<usize, SinkFault> {
         let guard = self.lock.lock(self.rt);
-        let written = io::writer(self.rt).write_all(bytes);
+        let written = write_whole(self.rt, self.rt, bytes);
         drop(guard);
         match written {
             Ok(()) => Ok(bytes.len()),
@@ -65,7 +66,7 @@ pub struct Standard<'a, R> {
     failures: GhostCounter,
 }
 
-impl<'a, R: Print> Standard<'a, R> {
+impl<'a, R: Print + Clock> Standard<'a, R> {
     /// Creates a sink for the standard output of a runtime.
     pub fn new(rt: &'a R) -> Standard<'a, R>
         ensures { result.failures.count ≡ 0 }
@@ -77,7 +78,7 @@ impl<'a, R: Print> Standard<'a, R> {
     }
 }
 
-impl<R: Print> Sink for Standard<'_, R> {
+impl<R: Print + Clock> Sink for Standard<'_, R> {
     ghost use Rattle.std.specs.Prelude.{None};
 
     ghost failures = { λ s. s.failures.count };
@@ -85,7 +86,7 @@ impl<R: Print> Sink for Standard<'_, R> {
     ghost taken = { λ _. None };
 
     fn write(&mut self, bytes: &[u8]) -> Result<usize, SinkFault> {
-        match io::writer(self.rt).write_all(bytes) {
+        match write_whole(self.rt, self.rt, bytes) {
             Ok(()) => Ok(bytes.len()),
             Err(_) => {
                 self.failures = self.failures.next();
