@@ -45,10 +45,10 @@ style_of other = style.Labels
 abbrev pub style_in : List Argument → Style
 style_in line = style_of (verbosity line)
 
--- How the text of a build is shown: commands in this style, perhaps on a terminal and in colours, and after the text of
--- this template.
-abbrev pub display_in : List Argument → Bool → (colours : Bool) → (template : List ℕ) → Look
-display_in line on_terminal colours template = record { style = style_in line; on_terminal = on_terminal; colours = colours; template = template }
+-- How the text of a build is shown: commands in this style, perhaps on a terminal of this width and in colours, and
+-- after the text of this template.
+abbrev pub display_in : List Argument → Bool → (colours : Bool) → (template : List ℕ) → (width : ℕ) → Look
+display_in line on_terminal colours template width = record { style = style_in line; on_terminal = on_terminal; colours = colours; template = template; width = width }
 
 -- Runs are shown as the text of a build, in this way. An H returns the outputs of commands, and the time. `taken` is
 -- the relation of these outputs, and `showed` of the time in milliseconds.

@@ -8,7 +8,7 @@ ghost use Rattle.plan_progress.specs.BuildLines.{look_of};
 ghost use Rattle.plan_build.specs.Statuses as statuses;
 ghost use Rattle.plan_build.specs.Statuses.{Ended, HasUnknownTarget, SaysBuilt, as_build, display_in};
 
-use crate::ending::{end_build, may_run_others, no_work, note_restat};
+use crate::ending::{NOTHING, Tally, end_build, may_run_others, no_work, note_restat, tally_of};
 use crate::record_place::{ManifestFiles, RecordPlace};
 use crate::refusal::{UNKNOWN_TARGET, refuse, refuse_moved, refuse_tool};
 use crate::watched_screen::{WatchedScreen, WriteWatcher};
@@ -46,6 +46,8 @@ pub struct Builder<'a, R, E, W, H> {
     pub colours: bool,
     /// The template of the text before a label.
     pub template: &'a [u8],
+    /// The number of columns of the terminal, or 0 if it isn't known.
+    pub width: usize,
     /// The lock of standard output.
     pub screen: &'a Mutex<()>,
     /// Unparked before a command starts, so that the lines so far are printed first.
@@ -63,6 +65,7 @@ impl<'a, R, E, W, H> Builder<'a, R, E, W, H> {
         on_terminal: bool,
         colours: bool,
         template: &'a [u8],
+        width: usize,
         screen: &'a Mutex<()>,
         parker: &'a Parker,
     ) -> Builder<'a, R, E, W, H> {
@@ -75,6 +78,7 @@ impl<'a, R, E, W, H> Builder<'a, R, E, W, H> {
             on_terminal,
             colours,
             template,
+            width,
             screen,
             parker,
         }
@@ -88,6 +92,7 @@ impl<'a, R, E, W, H> Builder<'a, R, E, W, H> {
         ensures on_terminal { result.on_terminal ≡ self.now.on_terminal }
         ensures colours { result.colours ≡ self.now.colours }
         ensures template { result.template.now ≡ self.now.template.now }
+        ensures width { result.width ≡ self.now.width }
     {
         let here = self;
         Builder {
@@ -99,6 +104,7 @@ impl<'a, R, E, W, H> Builder<'a, R, E, W, H> {
             on_terminal: here.on_terminal,
             colours: here.colours,
             template: here.template,
+            width: here.width,
             screen: here.screen,
             parker: here.parker,
         }
@@ -113,13 +119,14 @@ impl<
 > Builder<'_, R, E, W, H> {
     /// Returns the printer of the runs of a build.
     fn printer(&self, line: &CommandLine) -> BuildPrinter<'_, R, H>
-        ensures { look_of result.format.display ≡ display_in line.now self.now.on_terminal self.now.colours self.now.template.now }
+        ensures { look_of result.format.display ≡ display_in line.now self.now.on_terminal self.now.colours self.now.template.now self.now.width }
     {
         let display = Display {
             style: style_in(line),
             on_terminal: self.on_terminal,
             colours: self.colours,
             template: self.template,
+            width: self.width,
         };
         Printer {
             format: BuildLines::new(self.rt.alloc(), self.outputs, display),
@@ -127,17 +134,17 @@ impl<
         }
     }
 
-    /// Builds targets. Also returns how many edges failed.
+    /// Builds targets. Also returns how many edges failed, and how many were tried.
     fn run(
         &self,
         line: &CommandLine,
         options: Options,
         targets: &[&[u8]],
-    ) -> (Result<Done, PlanFault>, u64)
+    ) -> (Result<Done, PlanFault>, Tally)
         ensures done { let a = asked (statuses.manifest_in line.now) options (map (λ n. n.now) targets.now) in
-            IfOk result.0 (λ done. Ended (as_build H H.taken H.showed (display_in line.now self.now.on_terminal self.now.colours self.now.template.now)) W.allows a done) }
+            IfOk result.0 (λ done. Ended (as_build H H.taken H.showed (display_in line.now self.now.on_terminal self.now.colours self.now.template.now self.now.width)) W.allows a done) }
         ensures unknown { let a = asked (statuses.manifest_in line.now) options (map (λ n. n.now) targets.now) in
-            IfErr result.0 (λ fault. fault.number ≡ 132 → HasUnknownTarget (as_build H H.taken H.showed (display_in line.now self.now.on_terminal self.now.colours self.now.template.now)) W.allows a) }
+            IfErr result.0 (λ fault. fault.number ≡ 132 → HasUnknownTarget (as_build H H.taken H.showed (display_in line.now self.now.on_terminal self.now.colours self.now.template.now self.now.width)) W.allows a) }
     {
         let (rt, alloc) = (self.rt, self.rt.alloc());
         let order = Order {
@@ -156,7 +163,7 @@ impl<
             self.parker,
             printer,
         );
-        (done, printer.format.counts().failed)
+        (done, tally_of(printer.format.counts()))
     }
 
     /// Notes on standard error that more commands may run than a dry build listed, unless `--quiet` is given. `counts`
@@ -167,14 +174,14 @@ impl<
         }
     }
 
-    /// Prints the commands that a build would run, and notes if there may be more. Also returns how many edges would
-    /// fail.
+    /// Prints the commands that a build would run, and notes if there may be more. Also returns how many edges
+    /// would fail, and how many would be tried.
     fn preview(
         &self,
         line: &CommandLine,
         options: Options,
         targets: &[&[u8]],
-    ) -> (Result<Done, PlanFault>, u64) {
+    ) -> (Result<Done, PlanFault>, Tally) {
         let (rt, alloc) = (self.rt, self.rt.alloc());
         let order = Order {
             manifest: manifest_in(line),
@@ -196,20 +203,21 @@ impl<
         if done.is_ok() {
             self.note(line, listed, counts);
         }
-        (done, counts.failed)
+        (done, tally_of(counts))
     }
 
-    /// Builds targets, or with `-n` prints the commands that would run. Also returns how many edges failed.
+    /// Builds targets, or with `-n` prints the commands that would run. Also returns how many edges failed, and how
+    /// many were tried.
     fn build(
         &self,
         line: &CommandLine,
         options: Options,
         targets: &[&[u8]],
-    ) -> (Result<Done, PlanFault>, u64)
+    ) -> (Result<Done, PlanFault>, Tally)
         ensures done { let a = asked (statuses.manifest_in line.now) options (map (λ n. n.now) targets.now) in
-            is_dry_run line.now ≡ false → IfOk result.0 (λ done. Ended (as_build H H.taken H.showed (display_in line.now self.now.on_terminal self.now.colours self.now.template.now)) W.allows a done) }
+            is_dry_run line.now ≡ false → IfOk result.0 (λ done. Ended (as_build H H.taken H.showed (display_in line.now self.now.on_terminal self.now.colours self.now.template.now self.now.width)) W.allows a done) }
         ensures unknown { let a = asked (statuses.manifest_in line.now) options (map (λ n. n.now) targets.now) in
-            is_dry_run line.now ≡ false → IfErr result.0 (λ fault. fault.number ≡ 132 → HasUnknownTarget (as_build H H.taken H.showed (display_in line.now self.now.on_terminal self.now.colours self.now.template.now)) W.allows a) }
+            is_dry_run line.now ≡ false → IfErr result.0 (λ fault. fault.number ≡ 132 → HasUnknownTarget (as_build H H.taken H.showed (display_in line.now self.now.on_terminal self.now.colours self.now.template.now self.now.width)) W.allows a) }
     {
         if line.is_dry_run() {
             self.preview(line, options, targets)
@@ -218,8 +226,8 @@ impl<
         }
     }
 
-    /// Prints how a build ended in which `failed` edges failed, and returns the exit status.
-    fn end(&self, line: &CommandLine, done: Result<Done, PlanFault>, failed: u64) -> u8
+    /// Prints how a build ended, and returns the exit status.
+    fn end(&self, line: &CommandLine, done: Result<Done, PlanFault>, tally: Tally) -> u8
         ensures { result ≡ 0 → (d : Done) × (done ≡ Ok d) × (exit_status d ≡ 0) }
     {
         let manifest = manifest_in(line);
@@ -231,7 +239,7 @@ impl<
             ),
             Ok(done) => {
                 let allowed = line.failures();
-                end_build(self.rt, self.errors, manifest, allowed, failed, done)
+                end_build(self.rt, self.errors, manifest, allowed, tally, done)
             }
             Err(fault) => refuse(self.rt, self.errors, manifest, &fault),
         }
@@ -244,10 +252,10 @@ impl<
             Ok(Named::Sources) => no_work(self.rt, self.errors),
             Ok(Named::Targets(paths)) => match paths.slices(self.rt.alloc()) {
                 Ok(targets) => {
-                    let (done, failed) = self.build(line, options, &targets);
-                    self.end(line, done, failed)
+                    let (done, tally) = self.build(line, options, &targets);
+                    self.end(line, done, tally)
                 }
-                Err(_) => self.end(line, Err(no_memory(self.rt.alloc())), 0),
+                Err(_) => self.end(line, Err(no_memory(self.rt.alloc())), NOTHING),
             },
             Err(fault) => refuse_tool(self.rt, self.errors, manifest_in(line), &fault),
         }
@@ -256,7 +264,7 @@ impl<
     /// Builds like `build_line`, and shows before each command why it runs. To do so, observes edges.
     /// Returns the exit status.
     pub fn build_explained(&self, line: &CommandLine, jobs: u8) -> u8
-        ensures { SaysBuilt (as_build H H.taken H.showed (display_in line.now self.now.on_terminal self.now.colours self.now.template.now)) W.allows line.now jobs result }
+        ensures { SaysBuilt (as_build H H.taken H.showed (display_in line.now self.now.on_terminal self.now.colours self.now.template.now self.now.width)) W.allows line.now jobs result }
     {
         let observing = Observing::new(self.world);
         self.in_world(&observing).build_line(line, jobs)
@@ -270,10 +278,10 @@ impl<
             Options::new(line.jobs().unwrap_or(jobs), line.failures()),
             line.tool_words(alloc),
         ) else {
-            return self.end(line, Err(no_memory(alloc)), 0);
+            return self.end(line, Err(no_memory(alloc)), NOTHING);
         };
-        let (done, failed) = self.preview(line, options, &targets);
-        self.end(line, done, failed)
+        let (done, tally) = self.preview(line, options, &targets);
+        self.end(line, done, tally)
     }
 
     /// Prints which commands would run for the words of a tool, like `preview_words`, and why. Returns the exit status.
@@ -285,21 +293,21 @@ impl<
     /// Builds the targets of a command line. At most `jobs` commands run at once if `-j` isn't given. Returns the exit
     /// status.
     pub fn build_line(&self, line: &CommandLine, jobs: u8) -> u8
-        ensures { SaysBuilt (as_build H H.taken H.showed (display_in line.now self.now.on_terminal self.now.colours self.now.template.now)) W.allows line.now jobs result }
+        ensures { SaysBuilt (as_build H H.taken H.showed (display_in line.now self.now.on_terminal self.now.colours self.now.template.now self.now.width)) W.allows line.now jobs result }
     {
         let alloc = self.rt.alloc();
         let (Some(options), Ok(targets)) = (
             Options::new(line.jobs().unwrap_or(jobs), line.failures()),
             line.targets(alloc),
         ) else {
-            return self.end(line, Err(no_memory(alloc)), 0);
+            return self.end(line, Err(no_memory(alloc)), NOTHING);
         };
-        let (done, failed) = self.build(line, options, &targets);
+        let (done, tally) = self.build(line, options, &targets);
         match done {
             Err(fault) if fault.number == UNKNOWN_TARGET => {
                 self.build_named(line, options, &targets)
             }
-            done => self.end(line, done, failed),
+            done => self.end(line, done, tally),
         }
     }
 }

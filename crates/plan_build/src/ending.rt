@@ -24,6 +24,41 @@ fn failure_text(allowed: u32, failed: u64) -> &'static [u8] {
     }
 }
 
+/// The edges of a build that failed, and those that were tried.
+#[derive(Clone, Copy)]
+pub struct Tally {
+    /// The number of edges that failed.
+    pub failed: u64,
+    /// The number of edges that started, or failed for another reason than a missing source.
+    pub tried: u64,
+}
+
+/// The tally of a build that ran nothing.
+pub const NOTHING: Tally = Tally {
+    failed: 0,
+    tried: 0,
+};
+
+/// Returns the tally of these counts.
+pub fn tally_of(counts: Counts) -> Tally {
+    Tally {
+        failed: counts.failed,
+        tried: counts.tried,
+    }
+}
+
+/// Prints that a build stopped. Prints nothing if nothing ran, because only sources are missing.
+fn say_stopped<R: Print + Clock + AllocGlobal, E: Print>(
+    rt: &R,
+    errors: &E,
+    reason: &'static [u8],
+    tried: u64,
+) {
+    if tried > 0 {
+        let _ = say(rt, errors, &[b"ninja: build stopped: ", reason, b".\n"]);
+    }
+}
+
 /// Reports that a manifest can't be brought up to date, because a command failed or because it is still dirty after all
 /// tries.
 fn refuse_manifest<E: Print>(
@@ -82,26 +117,25 @@ pub fn no_work<R: Print + Clock + AllocGlobal, E: Print>(rt: &R, errors: &E) -> 
     status_after(say(rt, errors, &[b"ninja: no work to do.\n"]), 0)
 }
 
-/// Prints how the build of a manifest ended, in ninja's words. `allowed` is the value of `-k`, and `failed` the number
-/// of edges that failed. Returns the exit status of the build, or 1 if `no work to do` can't be written. That failure
+/// Prints how the build of a manifest ended, in ninja's words. `allowed` is the value of `-k`. Returns the exit status of the build, or 1 if `no work to do` can't be written. That failure
 /// is reported on standard error.
 pub fn end_build<R: Print + Clock + AllocGlobal, E: Print>(
     rt: &R,
     errors: &E,
     manifest: &[u8],
     allowed: u32,
-    failed: u64,
+    tally: Tally,
     done: Done,
 ) -> u8
     ensures { result ≡ 0 → exit_status done ≡ 0 }
 {
     let status = done.status();
-    let reason = failure_text(allowed, failed);
+    let reason = failure_text(allowed, tally.failed);
     match done {
         Done::Built => status,
         Done::UpToDate => status_after(say(rt, errors, &[b"ninja: no work to do.\n"]), status),
         Done::Failed => {
-            let _ = say(rt, errors, &[b"ninja: build stopped: ", &*reason, b".\n"]);
+            say_stopped(rt, errors, reason, tally.tried);
             status
         }
         Done::ManifestFails => {

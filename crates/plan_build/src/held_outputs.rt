@@ -1,6 +1,6 @@
 //! The outputs of commands that wait until their labels are shown, and the time.
 
-use crate::watched_screen::WriteWatcher;
+use crate::watched_screen::{WriteEnd, WriteWatcher};
 use indexmap::IndexMap;
 use plan_progress::{Outputs, Stopwatch};
 use std::alloc::Global;
@@ -32,6 +32,8 @@ struct Held {
     writing: bool,
     /// Whether a write failed. If so, nothing more is written.
     failed: bool,
+    /// Whether nobody reads the output any more.
+    closed: bool,
 }
 
 impl Held {
@@ -90,6 +92,7 @@ impl<'a, R: Wait + Clock> HeldOutputs<'a, R> {
             ready: None,
             writing: false,
             failed: false,
+            closed: false,
         };
         HeldOutputs {
             alloc,
@@ -133,9 +136,9 @@ impl<R: Wait + Clock> HeldOutputs<'_, R> {
         held.put(edge, text)
     }
 
-    /// Checks whether a write to standard output failed. If so, no further command begins.
-    pub fn has_failed(&self) -> bool {
-        self.held.lock(self.rt).failed
+    /// Checks whether nobody reads standard output any more. If so, no further command begins.
+    pub fn is_closed(&self) -> bool {
+        self.held.lock(self.rt).closed
     }
 
     /// Waits until the label of a console command was written, or a write failed, but at most for `LABEL_WAIT`.
@@ -175,14 +178,15 @@ impl<R: Wait> WriteWatcher for HeldOutputs<'_, R> {
         self.held.lock(self.rt).writing = true;
     }
 
-    fn end_write(&self, succeeded: bool) {
+    fn end_write(&self, end: WriteEnd) {
         let mut held = self.held.lock(self.rt);
         held.writing = false;
         if let Some(edge) = held.announced.take() {
             held.ready = Some(edge);
         }
-        if !succeeded {
+        if end != WriteEnd::Whole {
             held.failed = true;
+            held.closed = end == WriteEnd::Closed;
             held.texts = IndexMap::new(self.alloc);
             held.bytes = 0;
         }

@@ -6,7 +6,9 @@ mod ahead;
 mod builddir;
 mod building;
 mod ending;
+mod finding;
 mod held_outputs;
+mod including;
 mod pointing;
 mod record_place;
 mod refusal;
@@ -16,6 +18,7 @@ mod stopping;
 mod template;
 mod watched_screen;
 mod watcher;
+mod width;
 mod words;
 
 use crate::ahead::RecordedWorld;
@@ -28,6 +31,7 @@ use crate::stopping::{stop_at, warn};
 use crate::template::read_template;
 use crate::watched_screen::WriteWatcher;
 use crate::watcher::{STOP_COMMANDS, Watcher, stop_commands};
+use crate::width::terminal_width;
 use crate::words::{
     MANIFEST, RECORD, after_name, is_quiet, manifest_in, manner_in, name_in, words_in,
 };
@@ -35,7 +39,7 @@ use plan_build_tools::{BuildFiles, Request, Tool, request_in, run_tool, tool_nam
 use plan_lanes::World;
 use plan_options::{CommandLine, Setting};
 use plan_printing::{
-    ErrorStream, REFUSED, complain, complain_of, no_memory, open_streams, reason_of, say,
+    ErrorStream, REFUSED, complain, complain_of, no_memory, open_streams, reason_of_error, say,
 };
 use plan_progress::{Outputs, Stopwatch};
 use plan_stamps::StampCache;
@@ -105,7 +109,7 @@ fn enter<R: Env + Print + Eprint + Clock + AllocGlobal, E: Print>(
     match env::set_current_dir(rt, str::from_utf8(folder).unwrap_or("")) {
         Ok(()) => Ok(()),
         Err(error) => {
-            let reason = reason_of(error.kind());
+            let reason = reason_of_error(&error);
             let before = b"ninja: fatal: chdir to '";
             complain_of(rt.alloc(), errors, before, folder, b"' - ", reason);
             Err(REFUSED)
@@ -434,6 +438,16 @@ fn has_stopped_commands(rt: &HostRuntime) -> bool {
     }
 }
 
+/// Returns the number of columns of the terminal on which lines are written over. Returns 0 if it isn't known or there is
+/// no such terminal.
+fn width_of(rt: &HostRuntime) -> usize {
+    if is_smart_terminal(rt) {
+        terminal_width(rt)
+    } else {
+        0
+    }
+}
+
 fn main(rt: HostRuntime) -> ExitCode {
     if has_stopped_commands(&rt) {
         return ExitCode::from(0);
@@ -456,6 +470,7 @@ fn main(rt: HostRuntime) -> ExitCode {
         Ok(template) => template,
         Err(status) => return ExitCode::from(status),
     };
+    let width = width_of(&rt);
     let outputs = HeldOutputs::new(rt.alloc(), &rt);
     let watcher = Watcher::new();
     let place = match place_of(&rt, &errors, manifest_in(&line)) {
@@ -480,6 +495,7 @@ fn main(rt: HostRuntime) -> ExitCode {
         is_smart_terminal(&rt),
         wants_escapes(&rt),
         template.as_bytes(),
+        width,
         world.inner().screen(),
         world.inner().parker(),
     );

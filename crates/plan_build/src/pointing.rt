@@ -1,5 +1,6 @@
 //! Error messages with a line of a file, as ninja shows them.
 
+use crate::finding::{Finding, after_word, finding_of, first_line};
 use plan_printing::{FileSource, MANIFEST_BYTES};
 use plan_scope::Source;
 use plan_text::number_in;
@@ -48,16 +49,6 @@ fn line_and_column(text: &[u8]) -> (u64, usize) {
         }
     }
     (line, column)
-}
-
-/// Returns the first line of a text, without the line feed.
-fn first_line(text: &[u8]) -> &[u8] {
-    for at in 0..text.len() {
-        if text[at] == b'\n' {
-            return &text[..at];
-        }
-    }
-    text
 }
 
 /// The part of a line that is shown, and the column of the caret.
@@ -122,35 +113,81 @@ fn lines_of(alloc: Global, excerpt: Excerpt<'_>) -> Result<Vec<u8>, AllocError> 
     Ok(lines)
 }
 
-/// Returns ninja's message for an error at a place in a file with these bytes.
+/// Returns ninja's message for an error in a file with these bytes. The caret is at this offset.
 fn shown(
     alloc: Global,
-    place: Place<'_>,
+    file: &[u8],
     bytes: &[u8],
+    at: usize,
     sentence: &[u8],
 ) -> Result<Message, AllocError> {
-    let offset = usize::try_from(place.offset)
-        .unwrap_or(usize::MAX)
-        .min(bytes.len());
+    let offset = at.min(bytes.len());
     let (number, column) = line_and_column(&bytes[..offset]);
     let line = first_line(&bytes[offset - column.min(offset)..]);
-    let head = head_of(alloc, place.file, number, sentence)?;
+    let head = head_of(alloc, file, number, sentence)?;
     let lines = lines_of(alloc, excerpt_of(line, column))?;
     Ok(Message { head, lines })
 }
 
-/// Reads a file again, and returns ninja's message for an error at a place in it.
+/// Returns a sentence with a name in quotes after it, or without one if the name is empty.
+fn sentence_with(
+    alloc: Global,
+    sentence: &'static [u8],
+    name: &[u8],
+) -> Result<Vec<u8>, AllocError> {
+    let mut text = Vec::from_slice(alloc, sentence)?;
+    if !name.is_empty() {
+        text.extend_from_slice(b" '")?;
+        text.extend_from_slice(name)?;
+        text.push(b'\'')?;
+    }
+    Ok(text)
+}
+
+/// Reads a file again.
+///
+/// # Errors
+/// If memory runs out, or the file can't be read.
+fn read_again<R: Files + Eprint + AllocGlobal>(rt: &R, file: &[u8]) -> Result<Vec<u8>, AllocError> {
+    let mut files = FileSource::new(rt, MANIFEST_BYTES);
+    match files.read(rt.alloc(), file) {
+        Ok(bytes) => Ok(bytes),
+        Err(_) => Err(AllocError),
+    }
+}
+
+/// Returns the number of bytes before a place, as a position in a list.
+fn position_of(place: Place<'_>) -> usize {
+    usize::try_from(place.offset).unwrap_or(usize::MAX)
+}
+
+/// Reads a file again, and returns ninja's message for the fault with this number at a place in it.
 ///
 /// # Errors
 /// If memory runs out, or the file can't be read.
 pub fn error_text<R: Files + Eprint + AllocGlobal>(
     rt: &R,
     place: Place<'_>,
+    number: u8,
+) -> Result<Message, AllocError> {
+    let bytes = read_again(rt, place.file)?;
+    let Finding { sentence, name, at } = finding_of(number, &bytes, position_of(place));
+    let sentence = sentence_with(rt.alloc(), sentence, name)?;
+    shown(rt.alloc(), place.file, &bytes, at, &sentence)
+}
+
+/// Reads a file again, and returns a message with this sentence about a statement in it. The caret is after a word of
+/// the statement, or at its beginning if it doesn't have the word.
+///
+/// # Errors
+/// If memory runs out, or the file can't be read.
+pub fn text_after_word<R: Files + Eprint + AllocGlobal>(
+    rt: &R,
+    place: Place<'_>,
+    word: &[u8],
     sentence: &[u8],
 ) -> Result<Message, AllocError> {
-    let mut files = FileSource::new(rt, MANIFEST_BYTES);
-    match files.read(rt.alloc(), place.file) {
-        Ok(bytes) => shown(rt.alloc(), place, &bytes, sentence),
-        Err(_) => Err(AllocError),
-    }
+    let bytes = read_again(rt, place.file)?;
+    let at = after_word(&bytes, position_of(place), word);
+    shown(rt.alloc(), place.file, &bytes, at, sentence)
 }

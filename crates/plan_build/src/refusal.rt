@@ -2,9 +2,12 @@
 
 ghost use Rattle.std.specs.Prelude.{◌≡◌};
 
-use crate::pointing::{Message, Place, error_text, place_in};
+use crate::including::place_of_include;
+use crate::pointing::{Message, Place, error_text, place_in, text_after_word};
 use crate::sentences::{advice_for, sentence_of};
-use plan_build_tools::ToolFault;
+use plan_build_tools::{
+    LargeStatement, StatementPlace, ToolFault, largest_statement, second_producer,
+};
 use plan_printing::{
     LOST_OUTPUT, NO_ROOM, PlanFault, REFUSED, complain, complain_of, concatenate, file_fault,
     lost_output, no_memory, reason_of,
@@ -26,6 +29,19 @@ const UNKNOWN_DEFAULT: u8 = 52;
 const NO_MEMORY: u8 = 131;
 
 const FILE_FAULT: u8 = 133;
+
+const TWO_PRODUCERS: u8 = 50;
+
+const CYCLE: u8 = 51;
+
+const LIMIT: u8 = 100;
+
+/// The number of paths of a build statement above which it is the reason why an image has too many parts.
+const MANY_PATHS: usize = 10_000;
+
+/// The end of the sentence on such a build statement.
+const LIMIT_OF_PATHS: &[u8] =
+    b" paths; the limit is 65,536 steps for each statement, two or more for each path";
 
 /// The number of the fault that no edge makes a target.
 pub const UNKNOWN_TARGET: u8 = 132;
@@ -87,14 +103,134 @@ pub fn refuse_loading<E: Print>(alloc: Global, errors: &E, path: &[u8], kind: Er
     REFUSED
 }
 
-/// Reports that a file that a manifest includes is missing.
-fn refuse_include<E: Print>(alloc: Global, errors: &E, path: &[u8]) {
+/// Reports that a file that a manifest includes is missing, without the statement that includes it.
+fn refuse_include_simply<E: Print>(alloc: Global, errors: &E, path: &[u8]) {
     let head: &[&[u8]] = &[
         b"ninja: error: loading '",
         &*path,
         b"': No such file or directory",
     ];
     complain_with(alloc, errors, head, SOURCE_MISSING);
+}
+
+/// Returns the message that a file which a manifest includes is missing, with the statement that includes it. None if
+/// the statement isn't found.
+///
+/// # Errors
+/// If memory runs out, or a file can't be read again.
+fn include_text<R: Files + Eprint + AllocGlobal>(
+    rt: &R,
+    manifest: &[u8],
+    path: &[u8],
+) -> Result<Option<Message>, AllocError> {
+    let Some(found) = place_of_include(rt, manifest, path)? else {
+        return Ok(None);
+    };
+    let mut sentence = Vec::from_slice(rt.alloc(), b"loading '")?;
+    sentence.extend_from_slice(path)?;
+    sentence.extend_from_slice(b"': No such file or directory")?;
+    let place = Place {
+        file: &found.file,
+        offset: found.offset,
+    };
+    Ok(Some(text_after_word(rt, place, path, &sentence)?))
+}
+
+/// Reports that a file that a manifest includes is missing.
+fn refuse_include<R: Files + Eprint + AllocGlobal, E: Print>(
+    rt: &R,
+    errors: &E,
+    manifest: &[u8],
+    path: &[u8],
+) {
+    match include_text(rt, manifest, path) {
+        Ok(Some(Message { head, lines })) => {
+            complain_at(rt.alloc(), errors, &head, &lines, SOURCE_MISSING);
+        }
+        _ => refuse_include_simply(rt.alloc(), errors, path),
+    }
+}
+
+/// Returns the message that two build statements make an output, with the second of them. None if it isn't found.
+///
+/// # Errors
+/// If memory runs out, or a file can't be read again.
+fn two_producers_text<R: Files + Eprint + AllocGlobal>(
+    rt: &R,
+    manifest: &[u8],
+    output: &[u8],
+) -> Result<Option<Message>, AllocError> {
+    let Some(found) = second_producer(rt, manifest, output) else {
+        return Ok(None);
+    };
+    let mut sentence = Vec::from_slice(rt.alloc(), sentence_of(TWO_PRODUCERS))?;
+    sentence.push(b' ')?;
+    sentence.extend_from_slice(output)?;
+    Ok(Some(text_after_word(rt, place_of(&found), output, &sentence)?))
+}
+
+/// Returns the place of a statement.
+fn place_of(statement: &StatementPlace) -> Place<'_> {
+    Place {
+        file: statement.file.as_slice(),
+        offset: statement.offset,
+    }
+}
+
+/// Reports that two build statements make an output. `rest` is a blank and the output.
+fn refuse_second_producer<R: Files + Eprint + AllocGlobal, E: Print>(
+    rt: &R,
+    errors: &E,
+    manifest: &[u8],
+    name: &[u8],
+    rest: &[u8],
+) {
+    let alloc = rt.alloc();
+    match two_producers_text(rt, manifest, name) {
+        Ok(Some(Message { head, lines })) => {
+            complain_at(alloc, errors, &head, &lines, TWO_PRODUCERS);
+        }
+        _ => refuse_simply(
+            alloc,
+            errors,
+            sentence_of(TWO_PRODUCERS),
+            rest,
+            TWO_PRODUCERS,
+        ),
+    }
+}
+
+/// Returns the message that a build statement has too many paths for an image, with the statement.
+///
+/// # Errors
+/// If memory runs out, or a file can't be read again.
+fn limit_text<R: Files + Eprint + AllocGlobal>(
+    rt: &R,
+    large: &LargeStatement,
+) -> Result<Message, AllocError> {
+    let digits = u64::try_from(large.paths)
+        .unwrap_or(u64::MAX)
+        .to_string(rt.alloc())?;
+    let output = large.output.as_slice();
+    let mut sentence = Vec::from_slice(rt.alloc(), b"the build statement of ")?;
+    sentence.extend_from_slice(output)?;
+    sentence.extend_from_slice(b" has ")?;
+    sentence.extend_from_slice(digits.as_bytes())?;
+    sentence.extend_from_slice(LIMIT_OF_PATHS)?;
+    text_after_word(rt, place_of(&large.place), output, &sentence)
+}
+
+/// Reports that a manifest has too many parts for an image. Names the build statement that has too many, if one has.
+fn refuse_limit<R: Files + Eprint + AllocGlobal, E: Print>(rt: &R, errors: &E, manifest: &[u8]) {
+    let alloc = rt.alloc();
+    let text = match largest_statement(rt, manifest) {
+        Some(large) if large.paths > MANY_PATHS => limit_text(rt, &large),
+        _ => Err(AllocError),
+    };
+    match text {
+        Ok(Message { head, lines }) => complain_at(alloc, errors, &head, &lines, LIMIT),
+        Err(_) => refuse_simply(alloc, errors, sentence_of(LIMIT), &[], LIMIT),
+    }
 }
 
 /// Reports that no edge makes a target, in ninja's words.
@@ -145,7 +281,10 @@ pub fn refuse<R: Files + Eprint + AllocGlobal, E: Print>(
         (SOURCE_MISSING, Some(place)) if place.file == manifest => {
             return refuse_loading(alloc, errors, manifest, ErrorKind::NotFound);
         }
-        (SOURCE_MISSING, Some(place)) => refuse_include(alloc, errors, place.file),
+        (SOURCE_MISSING, Some(place)) => refuse_include(rt, errors, manifest, place.file),
+        (TWO_PRODUCERS, _) => refuse_second_producer(rt, errors, manifest, name, rest),
+        (CYCLE, _) => refuse_simply(alloc, errors, sentence_of(CYCLE), rest, CYCLE),
+        (LIMIT, _) => refuse_limit(rt, errors, manifest),
         (FILE_FAULT, _) => refuse_file(alloc, errors, name),
         (NO_MEMORY, _) => complain_at(
             alloc,
@@ -220,7 +359,7 @@ fn point_at<R: Files + Eprint + AllocGlobal, E: Print>(
     number: u8,
     rest: &[u8],
 ) {
-    match error_text(rt, place, sentence_of(number)) {
+    match error_text(rt, place, number) {
         Ok(Message { head, lines }) => complain_at(rt.alloc(), errors, &head, &lines, number),
         Err(_) => refuse_simply(rt.alloc(), errors, sentence_of(number), rest, number),
     }

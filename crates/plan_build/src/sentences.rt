@@ -1,5 +1,11 @@
 //! Sentences on faults.
 
+/// ninja's sentence for a variable that a block may not have.
+pub const UNEXPECTED_VARIABLE: &[u8] = b"unexpected variable";
+
+/// ninja's sentence for a pool without a depth.
+pub const EXPECTED_DEPTH: &[u8] = b"expected 'depth =' line";
+
 /// Returns ninja's sentence for the fault with this number, or this project's own sentence if ninja has none.
 pub fn sentence_of(number: u8) -> &'static [u8] {
     match number {
@@ -12,7 +18,7 @@ pub fn sentence_of(number: u8) -> &'static [u8] {
         12 => b"expected ':'",
         13 => b"expected path",
         14 => b"unexpected indent",
-        15 => b"unexpected variable",
+        15 => UNEXPECTED_VARIABLE,
         16 => b"expected 'command =' line",
         17 => b"invalid pool depth",
         18 => b"validations (|@) are not supported",

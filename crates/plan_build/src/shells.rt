@@ -58,13 +58,13 @@ fn add_signal(text: &mut Vec<u8>, status: &ExitStatus) -> Result<(), AllocError>
 }
 
 impl<R: Wait + Clock> BuildShells<'_, R> {
-    /// Checks that a command may begin: standard output can be written. If nobody reads it any more, the build stops as
-    /// it does after failed commands.
+    /// Checks that a command may begin: somebody may read standard output. If nobody does, the build stops as it does
+    /// after a failed command.
     ///
     /// # Errors
-    /// `BrokenPipe` if a write to standard output failed.
+    /// `BrokenPipe` if nobody reads standard output any more.
     fn check_output(&self) -> io::Result<()> {
-        if self.outputs.has_failed() {
+        if self.outputs.is_closed() {
             return Err(io::Error::from(ErrorKind::BrokenPipe));
         }
         Ok(())

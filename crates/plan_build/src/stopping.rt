@@ -34,13 +34,14 @@ options:
 const USAGE_AFTER_JOBS: &[u8] = b" on this system]
   -k N     keep going until N jobs fail (0 means infinity) [default=1]
   -n       dry run (don't run commands but act like they succeeded)
+  -d explain  explain what caused a command to execute
 
   -t TOOL  run a subtool (use '-t list' to list subtools)
     terminates toplevel options; further flags are passed to the tool
 
 without effect, with a warning:
   -l N     do not start new jobs if the load average is greater than N
-  -d MODE  enable debugging (use '-d list' to list modes)
+  -d MODE  enable other debugging (use '-d list' to list modes)
   -w FLAG  adjust warnings (use '-w list' to list warnings)
 ";
 
@@ -197,14 +198,24 @@ pub fn stop_at<R: Print + Clock + AllocGlobal, E: Print>(
     }
 }
 
-/// Returns the last debugging mode, if it has no effect.
-fn idle_mode(line: &CommandLine) -> Option<&[u8]> {
-    match line.value(Setting::Mode) {
-        Some(mode) => {
-            if mode == b"explain".as_slice() {
+/// Checks whether a debugging mode is one that this program has: it explains, and keeps all depfiles anyway.
+fn has_mode(mode: &[u8]) -> bool {
+    (mode == b"explain".as_slice()) | (mode == b"keepdepfile".as_slice())
+}
+
+/// Checks whether a warning is treated as this program always does: two build statements for one output are an error.
+fn has_warning(warning: &[u8]) -> bool {
+    warning == b"dupbuild=err".as_slice()
+}
+
+/// Returns the last value of an option, if it has no effect.
+fn idle_value(line: &CommandLine, setting: Setting) -> Option<&[u8]> {
+    match line.value(setting) {
+        Some(value) => {
+            if has_mode(value) | has_warning(value) {
                 return None;
             }
-            Some(mode)
+            Some(value)
         }
         None => None,
     }
@@ -212,7 +223,7 @@ fn idle_mode(line: &CommandLine) -> Option<&[u8]> {
 
 /// Reports on standard error which options have no effect.
 pub fn warn<E: Print>(alloc: Global, errors: &E, line: &CommandLine) {
-    if let Some(mode) = idle_mode(line) {
+    if let Some(mode) = idle_value(line, Setting::Mode) {
         complain(
             alloc,
             errors,
@@ -226,7 +237,7 @@ pub fn warn<E: Print>(alloc: Global, errors: &E, line: &CommandLine) {
             &[b"ninja: warning: -l ", &*load, b" has no effect\n"],
         );
     }
-    if let Some(warning) = line.value(Setting::Warning) {
+    if let Some(warning) = idle_value(line, Setting::Warning) {
         complain(
             alloc,
             errors,

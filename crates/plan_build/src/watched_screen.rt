@@ -4,6 +4,7 @@ ghost use Rattle.std.specs.Prelude.{◌≡◌};
 
 use plan_printing::write_whole;
 use plan_text::{GhostCounter, Sink, SinkFault};
+use std::io::{self, ErrorKind};
 use std::rt::Clock;
 use std::sync::{Mutex, Wait};
 
@@ -12,8 +13,30 @@ pub trait WriteWatcher {
     /// Notes that a write begins.
     fn begin_write(&self);
 
-    /// Notes that a write has ended, and whether it succeeded.
-    fn end_write(&self, succeeded: bool);
+    /// Notes how a write has ended.
+    fn end_write(&self, end: WriteEnd);
+}
+
+/// The end of a write.
+#[derive(Clone, Copy, PartialEq, Eq)]
+pub enum WriteEnd {
+    /// All bytes were written.
+    Whole,
+    /// Nobody reads the pipe any more.
+    Closed,
+    /// The write failed for another reason, such as a full disk.
+    Lost,
+}
+
+/// Returns how a write ended that had this result.
+fn end_of(written: &io::Result<()>) -> WriteEnd {
+    match written {
+        Ok(()) => WriteEnd::Whole,
+        Err(error) => match error.kind() {
+            ErrorKind::BrokenPipe => WriteEnd::Closed,
+            _ => WriteEnd::Lost,
+        },
+    }
 }
 
 /// Standard output that is locked during each write, like plan_commands' `Screen`. A watcher is notified of each write.
@@ -52,7 +75,7 @@ impl<R: Print + Wait + Clock, H: WriteWatcher> Sink for WatchedScreen<'_, R, H> 
         let guard = self.lock.lock(self.rt);
         let written = write_whole(self.rt, self.rt, bytes);
         drop(guard);
-        self.watcher.end_write(written.is_ok());
+        self.watcher.end_write(end_of(&written));
         match written {
             Ok(()) => Ok(bytes.len()),
             Err(_) => {

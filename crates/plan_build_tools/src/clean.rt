@@ -7,7 +7,7 @@ use crate::paths::paths_named;
 use crate::words::Request;
 use indexmap::IndexMap;
 use plan_graph::Graph;
-use plan_printing::{Buffer, REFUSED, Standard, complain_of, concatenate, reason_of};
+use plan_printing::{Buffer, REFUSED, Standard, complain_of, concatenate, reason_of_error};
 use plan_scope::Manifest;
 use plan_text::{PathFilter, RowList, Sink, write_all};
 use plan_tools::{
@@ -246,7 +246,7 @@ impl Removal {
         match remove(rt, text) {
             Ok(is_removed) => is_removed,
             Err(error) => {
-                let reason = reason_of(error.kind());
+                let reason = reason_of_error(&error);
                 complain_of(
                     rt.alloc(),
                     errors,

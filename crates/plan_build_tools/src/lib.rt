@@ -5,6 +5,7 @@
 //! - `Request`, `request_in`: the words of a command line for a tool.
 //! - `run_tool`: runs a tool on the files of a build (`BuildFiles`). It removes files in a `Manner`.
 //! - `named_in`: the paths that words name in a manifest (`Named`, `Paths`).
+//! - `second_producer`, `largest_statement`: the places of build statements that messages are about.
 //! - `ToolFault`: the reason why a tool is refused.
 //!
 //! docs/rules/tools.md and docs/rules/command-line.md have the rules one by one.
@@ -17,11 +18,14 @@ mod loaded;
 mod path_lists;
 mod paths;
 mod record;
+mod statements;
 mod tool;
 mod words;
 
 pub use clean::Manner;
 pub use fault::ToolFault;
+pub use loaded::StatementPlace;
 pub use paths::{Named, Paths, named_in};
+pub use statements::{LargeStatement, largest_statement, second_producer};
 pub use tool::{BuildFiles, Tool, run_tool, tool_named, unknown_tool};
 pub use words::{Request, request_in};

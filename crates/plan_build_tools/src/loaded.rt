@@ -4,8 +4,8 @@ use crate::fault::ToolFault;
 use plan_graph::{Graph, graph};
 use plan_parse::DirectiveKind;
 use plan_printing::{FileSource, MANIFEST_BYTES, printed_fault, printed_graph_fault};
-use plan_scope::{Manifest, Said, Tree, evaluate, load};
-use plan_text::RowList;
+use plan_scope::{Manifest, Said, Tree, TreeStatement, evaluate, load};
+use plan_text::{Items, RowList};
 use plan_tools::rules_of;
 use std::alloc::Global;
 use std::rt::Files;
@@ -18,6 +18,23 @@ pub struct Loaded {
     pub manifest: Manifest,
     /// The rule of each edge.
     pub rules: RowList<u8>,
+}
+
+/// The place of a statement.
+#[derive(Drop)]
+pub struct StatementPlace {
+    /// The path of its file.
+    pub file: Items<u8>,
+    /// The number of bytes before it.
+    pub offset: u64,
+}
+
+/// Returns the place of a statement. None if memory runs out.
+fn place_of(alloc: Global, statement: &TreeStatement<'_>) -> Option<StatementPlace> {
+    Some(StatementPlace {
+        file: Items::new(Vec::from_slice(alloc, statement.path()).ok()?),
+        offset: statement.offset(),
+    })
 }
 
 /// Reads and evaluates the manifest at a path.
@@ -56,6 +73,20 @@ impl Loaded {
             Ok(graph) => Ok(graph),
             Err(fault) => Err(ToolFault::Plan(printed_graph_fault(alloc, &self.manifest, &fault))),
         }
+    }
+
+    /// Returns the place of the build statement with this number, from 0. None if there is none, or memory runs out.
+    pub fn build_statement(&self, alloc: Global, number: usize) -> Option<StatementPlace> {
+        let mut left = number;
+        for statement in self.tree.statements() {
+            if let Said::Build(_) = statement.said() {
+                if left == 0 {
+                    return place_of(alloc, &statement);
+                }
+                left = left.saturating_sub(1);
+            }
+        }
+        None
     }
 
     /// Checks whether the manifest or a file that it includes has a rule with this name. `phony` is always one.

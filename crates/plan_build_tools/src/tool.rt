@@ -110,13 +110,17 @@ fn near_name(alloc: Global, name: &[u8]) -> &'static [u8] {
     }
 }
 
+/// The names of the tools, as the end of a message.
+const TOOL_NAMES: &[u8] =
+    b"there are clean, commands, targets, compdb, recompact, restat, cleandead and explain\n";
+
 /// Reports an unknown tool, and suggests the tool `near` unless it is empty.
 fn say_unknown<'a, E: Print>(alloc: Global, errors: &E, name: &'a [u8], near: &'a [u8]) {
     if near.is_empty() {
         complain(
             alloc,
             errors,
-            &[b"ninja: fatal: unknown tool '", &*name, b"'\n"],
+            &[b"ninja: fatal: unknown tool '", &*name, b"'; ", TOOL_NAMES],
         );
     } else {
         complain(

@@ -9,7 +9,7 @@
 //! - `write_whole`: writes to a stream that may be in non-blocking mode. `ErrorStream`: standard error, written this
 //!   way.
 //! - `FileSource`, `NewFile`: the files of the system.
-//! - `say`, `complain`, `complain_of`: print lines of plan_build, and its error messages. `reason_of` has the system's
+//! - `say`, `complain`, `complain_of`: print lines of plan_build, and its error messages. `reason_of_error` has the system's
 //!   words for an error of a file.
 //!
 //! docs/using/refusals.md has the faults one by one.
@@ -29,8 +29,8 @@ pub use fault::{
 pub use files::{FileSource, IMAGE_BYTES, MANIFEST_BYTES, NewFile, TRACE_BYTES};
 pub use graph_fault::printed_graph_fault;
 pub use said::{
-    LOST_OUTPUT, NO_ROOM, REFUSED, complain, complain_of, concatenate, digits_in, reason_of, say,
-    status_after,
+    LOST_OUTPUT, NO_ROOM, REFUSED, complain, complain_of, concatenate, digits_in, reason_of,
+    reason_of_error, say, status_after,
 };
 pub use screen::{Buffer, Screen, Standard, ended, open_streams};
 pub use waiting::{ErrorStream, write_whole};

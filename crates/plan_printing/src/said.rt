@@ -4,7 +4,7 @@ ghost use Rattle.std.specs.Prelude.{◌≡◌, IfErr, OnOk};
 
 use crate::waiting::write_whole;
 use std::alloc::{AllocError, Global};
-use std::io::ErrorKind;
+use std::io::{self, ErrorKind};
 use std::rt::Clock;
 
 /// The exit status of plan_build if the command line or a manifest is refused, or if a build fails.
@@ -90,6 +90,15 @@ pub fn status_after(said: Result<(), u8>, status: u8) -> u8
     }
 }
 
+/// Returns the text of C's strerror for an error of a file, also for numbers of which the kit has no kind.
+pub fn reason_of_error(error: &io::Error) -> &'static [u8] {
+    match error.raw_os_error() {
+        Some(23) => b"Too many open files in system",
+        Some(24) => b"Too many open files",
+        _ => reason_of(error.kind()),
+    }
+}
+
 /// Returns the text of C's strerror for an error of a file.
 pub fn reason_of(kind: ErrorKind) -> &'static [u8] {
     match kind {
@@ -102,6 +111,14 @@ pub fn reason_of(kind: ErrorKind) -> &'static [u8] {
         ErrorKind::ResourceBusy => b"Device or resource busy",
         ErrorKind::InvalidFilename => b"File name too long",
         ErrorKind::OutOfMemory => b"Cannot allocate memory",
+        ErrorKind::FilesystemLoop => b"Too many levels of symbolic links",
+        ErrorKind::StorageFull => b"No space left on device",
+        ErrorKind::QuotaExceeded => b"Disk quota exceeded",
+        ErrorKind::FileTooLarge => b"File too large",
+        ErrorKind::ExecutableFileBusy => b"Text file busy",
+        ErrorKind::StaleNetworkFileHandle => b"Stale file handle",
+        ErrorKind::TimedOut => b"Connection timed out",
+        ErrorKind::InvalidInput => b"Invalid argument",
         _ => b"Input/output error",
     }
 }

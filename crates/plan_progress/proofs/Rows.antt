@@ -14,6 +14,7 @@ use Rattle.plan_progress.specs.declared.style.Style.{Style}
 use Rattle.plan_progress.specs.declared.style.Style.TheVariants.{Labels, Commands, Failures}
 use Rattle.plan_progress.specs.Command.{text_before_run}
 use Rattle.plan_progress.specs.BuildLines.{Entry, Look, first_line, text_of}
+use Rattle.plan_progress.specs.Eliding.{elided}
 use Rattle.plan_progress.specs.Pace.{recent_rate, times_then}
 use Rattle.plan_progress.specs.Template.{template_text, unknown_placeholder}
 
@@ -40,10 +41,10 @@ abbrev line : List ℕ → List ℕ
 line text = text ++ 10 ∷ []
 
 abbrev in_pipe : Style → Look
-in_pipe style = record { style = style; on_terminal = false; colours = false; template = codes "[%f/%t] " }
+in_pipe style = record { style = style; on_terminal = false; colours = false; template = codes "[%f/%t] "; width = 0 }
 
 abbrev on_terminal : Style → Look
-on_terminal style = record { style = style; on_terminal = true; colours = true; template = codes "[%f/%t] " }
+on_terminal style = record { style = style; on_terminal = true; colours = true; template = codes "[%f/%t] "; width = 0 }
 
 -- carriage return, erase the line, don't wrap; the text; wrap again
 abbrev over : List ℕ → List ℕ
@@ -74,11 +75,27 @@ one_fails : text_of (in_pipe Commands) build 2 (silent (Ended 0 false) ∷ with_
 unfolding digits
 one_fails = refl
 
--- an input is missing, and the other edge is skipped
+-- an input is missing, and the other edge is skipped: nothing ran, so nothing is counted
 input_is_missing : text_of (in_pipe Labels) build 2 (silent (Failed 0 (cause.MissingInput 4)) ∷ silent (Skipped 1 0) ∷ silent (Skipped 2 1) ∷ [])
-    ≡ line (codes "ninja: error: 'a.c', needed by 'a.o', missing and no known rule to make it") ++ line (codes "1 skipped")
+    ≡ line (codes "ninja: error: 'a.c', needed by 'a.o', missing and no known rule to make it")
 unfolding digits
 input_is_missing = refl
+
+-- an input is missing after a command ran, so what was skipped is counted
+input_is_missing_late : text_of (in_pipe Labels) build 2 (silent (Took 0) ∷ silent (Ended 0 true) ∷ silent (Failed 2 (cause.MissingInput 4)) ∷ silent (Skipped 1 0) ∷ [])
+    ≡ line (codes "[1/2] CC a.o") ++ line (codes "ninja: error: 'a.c', needed by 'all', missing and no known rule to make it") ++ line (codes "1 skipped")
+unfolding digits
+input_is_missing_late = refl
+
+-- a line of 16 bytes on 12 columns, and on 16; another character isn't cut
+long_line : elided 12 (codes "[0/1] abcdefghij") ≡ codes "[0/1...ghij"
+long_line = refl
+
+fitting_line : elided 16 (codes "[0/1] abcdefghij") ≡ codes "[0/1] abcdefghij"
+fitting_line = refl
+
+other_line : elided 3 (97 ∷ 195 ∷ 164 ∷ 98 ∷ []) ≡ 97 ∷ 195 ∷ 164 ∷ 98 ∷ []
+other_line = refl
 
 -- only the failure is shown, and the counts at the end
 failures_only : text_of (in_pipe Failures) build 3 (with_output (Ended 0 true) (line (codes "warning")) ∷ silent (Failed 1 cause.Signal) ∷ silent (Stopped 1) ∷ [])
@@ -187,7 +204,7 @@ percent_at_the_end : unknown_placeholder (codes "%%%") ≡ Some 0
 percent_at_the_end = refl
 
 -- a command that ends while another one runs still counts as running
-others_run : text_of (record { style = Labels; on_terminal = false; colours = false; template = codes "%s %r %u %f %e: " }) build 2 (silent (Took 0) ∷ silent (Took 1) ∷ silent (Ended 0 true) ∷ silent (Ended 1 true) ∷ [])
+others_run : text_of (record { style = Labels; on_terminal = false; colours = false; template = codes "%s %r %u %f %e: "; width = 0 }) build 2 (silent (Took 0) ∷ silent (Took 1) ∷ silent (Ended 0 true) ∷ silent (Ended 1 true) ∷ [])
     ≡ line (codes "2 2 0 1 1.500: CC a.o") ++ line (codes "2 1 0 2 1.500: LINK app")
 unfolding digits
 others_run = refl

@@ -1,5 +1,5 @@
 -- The text of a build: what is shown of the marks of its run, with the outputs of its commands.
-use Rattle.std.specs.Prelude.{◌≡◌, ℕ, ◌==◌, Bool, true, false, not, ◌&&◌, ◌||◌, List, [], ◌∷◌, ◌++◌, Option, None, if◌then◌else◌, map, codes}
+use Rattle.std.specs.Prelude.{◌≡◌, ℕ, ◌==◌, nat_lt, Bool, true, false, not, ◌&&◌, ◌||◌, List, [], ◌∷◌, ◌++◌, Option, None, if◌then◌else◌, map, codes}
 use Rattle.std.specs.Fmt.{decimal}
 use Rattle.plan_text.specs.Bytes.{line_feed, space}
 use Rattle.plan_image.specs.declared.image.Parts.{Parts}
@@ -19,6 +19,7 @@ use Rattle.plan_progress.specs.declared.display.Display.{Display}
 use Rattle.plan_progress.specs.declared.style.Style.{Style}
 use Rattle.plan_progress.specs.declared.style.Style.TheVariants.{Labels, Commands, Failures}
 use Rattle.plan_progress.specs.Command.{command_of}
+use Rattle.plan_progress.specs.Eliding.{elided}
 use Rattle.plan_progress.specs.Counting.{counted, counts_of, ended, is_end, no_counts}
 use Rattle.plan_progress.specs.Pace.{recent_rate, times_then}
 use Rattle.plan_progress.specs.Running.{running_of, running_then}
@@ -26,15 +27,16 @@ use Rattle.plan_progress.specs.Template.{at_end, at_start, template_text}
 
 -- What an edge doesn't have in the image is shown as an empty text. Counts are those after the mark that is shown.
 
--- How the text is shown: a display, with the text of its template.
+-- How the text is shown: a display, with the text of its template. The width of a terminal is 0 if it isn't known.
 pub record Look : Type 0 where
   pub style : Style
   pub on_terminal : Bool
   pub colours : Bool
   pub template : List ℕ
+  pub width : ℕ
 
 abbrev pub look_of : Display → Look
-look_of d = record { style = d.style; on_terminal = d.on_terminal; colours = d.colours; template = d.template.now }
+look_of d = record { style = d.style; on_terminal = d.on_terminal; colours = d.colours; template = d.template.now; width = d.width }
 
 -- ---- the line of a command
 
@@ -58,12 +60,12 @@ write_over = 13 ∷ 27 ∷ codes "[K" ++ 27 ∷ codes "[?7l"
 abbrev pub wrap_again : List ℕ
 wrap_again = 27 ∷ codes "[?7h"
 
--- on a terminal the line is written over the one before it, and has no line feed
-abbrev pub terminal_line : List ℕ → Numbers → List ℕ → List ℕ
-terminal_line template n label = write_over ++ (progress template n (first_line label) ++ wrap_again)
+-- on a terminal the line is written over the one before it, cut to its width, and has no line feed
+abbrev pub terminal_line : (width : ℕ) → List ℕ → Numbers → List ℕ → List ℕ
+terminal_line width template n label = write_over ++ (elided width (progress template n (first_line label)) ++ wrap_again)
 
 abbrev pub shown_line : Look → Numbers → List ℕ → List ℕ
-shown_line d n label = if d.on_terminal then terminal_line d.template n label else progress_line d.template n label
+shown_line d n label = if d.on_terminal then terminal_line d.width d.template n label else progress_line d.template n label
 
 abbrev pub styled_line : Style → Look → Parts → Numbers → ℕ → List ℕ
 styled_line Labels d p n e = shown_line d n (or_empty (label_of p e))
@@ -171,8 +173,9 @@ counts_line n m = if n == 0 then (if m == 0 then [] else not_started_line m) els
 abbrev pub is_last : Parts → ℕ → Counts → Mark → Bool
 is_last p total c mark = is_end p mark && (ended c == total)
 
+-- Nothing is counted if nothing ran, because only inputs are missing.
 abbrev pub end_line : Bool → Counts → List ℕ
-end_line last c = if last then counts_line c.skipped c.not_started else []
+end_line last c = if last && nat_lt 0 c.tried then counts_line c.skipped c.not_started else []
 
 -- ---- line feeds on a terminal
 

@@ -3,12 +3,13 @@ use Rattle.std.specs.Prelude.{ℕ, ◌+◌, Bool, true, false, List, [], ◌∷�
 use Rattle.plan_image.specs.declared.image.Parts.{Parts}
 use Rattle.plan_machine.specs.declared.event.Mark.{Mark}
 use Rattle.plan_machine.specs.declared.event.Mark.TheVariants.{Ended, Failed, Skipped, Stopped, Took}
+use Rattle.plan_verify.specs.declared.value.Cause.{Cause}
 use Rattle.plan_verify.specs.declared.value.Cause.TheVariants.{MissingInput}
 use Rattle.plan_machine.specs.Total.{has_command}
 use Rattle.plan_progress.specs.declared.counts.Counts.{Counts}
 
 abbrev pub no_counts : Counts
-no_counts = record { started = 0; finished = 0; clean = 0; skipped = 0; not_started = 0; failed = 0 }
+no_counts = record { started = 0; finished = 0; clean = 0; skipped = 0; not_started = 0; failed = 0; tried = 0 }
 
 -- a mark says how a command edge ended
 abbrev pub is_end : Parts → Mark → Bool
@@ -19,22 +20,25 @@ is_end p (Stopped e) = has_command p e
 is_end p _ = false
 
 abbrev pub one_more_finished : Counts → Counts
-one_more_finished c = record { started = c.started; finished = c.finished + 1; clean = c.clean; skipped = c.skipped; not_started = c.not_started; failed = c.failed }
+one_more_finished c = record { started = c.started; finished = c.finished + 1; clean = c.clean; skipped = c.skipped; not_started = c.not_started; failed = c.failed; tried = c.tried }
 
 abbrev pub one_more_clean : Counts → Counts
-one_more_clean c = record { started = c.started; finished = c.finished; clean = c.clean + 1; skipped = c.skipped; not_started = c.not_started; failed = c.failed }
+one_more_clean c = record { started = c.started; finished = c.finished; clean = c.clean + 1; skipped = c.skipped; not_started = c.not_started; failed = c.failed; tried = c.tried }
 
 abbrev pub one_more_skipped : Counts → Counts
-one_more_skipped c = record { started = c.started; finished = c.finished; clean = c.clean; skipped = c.skipped + 1; not_started = c.not_started; failed = c.failed }
+one_more_skipped c = record { started = c.started; finished = c.finished; clean = c.clean; skipped = c.skipped + 1; not_started = c.not_started; failed = c.failed; tried = c.tried }
 
 abbrev pub one_more_not_started : Counts → Counts
-one_more_not_started c = record { started = c.started; finished = c.finished; clean = c.clean; skipped = c.skipped; not_started = c.not_started + 1; failed = c.failed }
+one_more_not_started c = record { started = c.started; finished = c.finished; clean = c.clean; skipped = c.skipped; not_started = c.not_started + 1; failed = c.failed; tried = c.tried }
 
 abbrev pub one_more_failed : Counts → Counts
-one_more_failed c = record { started = c.started; finished = c.finished; clean = c.clean; skipped = c.skipped; not_started = c.not_started; failed = c.failed + 1 }
+one_more_failed c = record { started = c.started; finished = c.finished; clean = c.clean; skipped = c.skipped; not_started = c.not_started; failed = c.failed + 1; tried = c.tried }
 
 abbrev pub one_more_started : Counts → Counts
-one_more_started c = record { started = c.started + 1; finished = c.finished; clean = c.clean; skipped = c.skipped; not_started = c.not_started; failed = c.failed }
+one_more_started c = record { started = c.started + 1; finished = c.finished; clean = c.clean; skipped = c.skipped; not_started = c.not_started; failed = c.failed; tried = c.tried }
+
+abbrev pub one_more_tried : Counts → Counts
+one_more_tried c = record { started = c.started; finished = c.finished; clean = c.clean; skipped = c.skipped; not_started = c.not_started; failed = c.failed; tried = c.tried + 1 }
 
 -- an edge has finished if its command ran or it failed, and is clean if it succeeded without running one
 abbrev pub one_more : Counts → Mark → Counts
@@ -62,9 +66,22 @@ is_start p _ = false
 abbrev pub with_start : Parts → Counts → Mark → Counts
 with_start p c mark = if is_start p mark then one_more_started c else c
 
+abbrev pub is_other_cause : Cause → Bool
+is_other_cause (MissingInput f) = false
+is_other_cause cause = true
+
+-- A mark says that a command edge started, or that an edge failed for another reason than a missing input.
+abbrev pub is_try : Parts → Mark → Bool
+is_try p (Took e) = has_command p e
+is_try p (Failed e cause) = is_other_cause cause
+is_try p _ = false
+
+abbrev pub with_try : Parts → Counts → Mark → Counts
+with_try p c mark = if is_try p mark then one_more_tried c else c
+
 -- the counts after one more mark
 abbrev pub counted : Parts → Counts → Mark → Counts
-counted p c mark = with_start p (with_failure (with_end p c mark) mark) mark
+counted p c mark = with_try p (with_start p (with_failure (with_end p c mark) mark) mark) mark
 
 -- the counts after more marks
 abbrev pub counted_all : Parts → Counts → List Mark → Counts

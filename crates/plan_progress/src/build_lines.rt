@@ -176,11 +176,11 @@ fn is_last(image: &Image, total: u64, counts: Counts, mark: Mark) -> Option<bool
     }
 }
 
-/// Returns the line of counts if the build ends.
+/// Returns the line of counts if the build ends. Empty if nothing ran, because only inputs are missing.
 fn end_line(alloc: Global, last: bool, counts: Counts) -> Result<Vec<u8>, AllocError>
     ensures { IfOk result (λ line. line.items ≡ defined.end_line last counts) }
 {
-    if last {
+    if last & (0 < counts.tried) {
         counts_line(alloc, counts.skipped, counts.not_started)
     } else {
         Ok(Vec::new(alloc))

@@ -19,6 +19,7 @@ pub(crate) fn no_counts() -> Counts
         skipped: 0,
         not_started: 0,
         failed: 0,
+        tried: 0,
     }
 }
 
@@ -46,6 +47,7 @@ fn one_more_finished(counts: Counts) -> Option<Counts>
         skipped: counts.skipped,
         not_started: counts.not_started,
         failed: counts.failed,
+        tried: counts.tried,
     })
 }
 
@@ -60,6 +62,7 @@ fn one_more_clean(counts: Counts) -> Option<Counts>
         skipped: counts.skipped,
         not_started: counts.not_started,
         failed: counts.failed,
+        tried: counts.tried,
     })
 }
 
@@ -74,6 +77,7 @@ fn one_more_skipped(counts: Counts) -> Option<Counts>
         skipped: counts.skipped.checked_add(1)?,
         not_started: counts.not_started,
         failed: counts.failed,
+        tried: counts.tried,
     })
 }
 
@@ -88,6 +92,7 @@ fn one_more_not_started(counts: Counts) -> Option<Counts>
         skipped: counts.skipped,
         not_started: counts.not_started.checked_add(1)?,
         failed: counts.failed,
+        tried: counts.tried,
     })
 }
 
@@ -102,6 +107,7 @@ fn one_more_started(counts: Counts) -> Option<Counts>
         skipped: counts.skipped,
         not_started: counts.not_started,
         failed: counts.failed,
+        tried: counts.tried,
     })
 }
 
@@ -116,6 +122,22 @@ fn one_more_failed(counts: Counts) -> Option<Counts>
         skipped: counts.skipped,
         not_started: counts.not_started,
         failed: counts.failed.checked_add(1)?,
+        tried: counts.tried,
+    })
+}
+
+/// Counts one more edge that was tried. Returns None if the number is too large for a `u64`.
+fn one_more_tried(counts: Counts) -> Option<Counts>
+    ensures { IfSome result (λ c. c ≡ defined.one_more_tried counts) }
+{
+    Some(Counts {
+        started: counts.started,
+        finished: counts.finished,
+        clean: counts.clean,
+        skipped: counts.skipped,
+        not_started: counts.not_started,
+        failed: counts.failed,
+        tried: counts.tried.checked_add(1)?,
     })
 }
 
@@ -176,13 +198,47 @@ fn with_start(image: &Image, counts: Counts, mark: Mark) -> Option<Counts>
     }
 }
 
+/// Checks whether a mark says that a command edge started, or that an edge failed for another reason than a missing
+/// input.
+fn is_try(image: &Image, mark: Mark) -> bool
+    ensures { result ≡ defined.is_try image.now mark }
+{
+    match mark {
+        Mark::Took(taken) => has_command(image, taken),
+        Mark::Failed(_, cause) => is_other_cause(cause),
+        _ => false,
+    }
+}
+
+/// Checks whether a cause isn't a missing input.
+fn is_other_cause(cause: Cause) -> bool
+    ensures { result ≡ defined.is_other_cause cause }
+{
+    match cause {
+        Cause::MissingInput(_) => false,
+        _ => true,
+    }
+}
+
+/// Counts the edge of a mark if it was tried. Returns None if the number is too large for a `u64`.
+fn with_try(image: &Image, counts: Counts, mark: Mark) -> Option<Counts>
+    ensures { IfSome result (λ c. c ≡ defined.with_try image.now counts mark) }
+{
+    if is_try(image, mark) {
+        one_more_tried(counts)
+    } else {
+        Some(counts)
+    }
+}
+
 /// Returns the counts after one more mark. None if a number is too large for a `u64`.
 pub(crate) fn counted(image: &Image, counts: Counts, mark: Mark) -> Option<Counts>
     ensures { IfSome result (λ c. c ≡ defined.counted image.now counts mark) }
 {
     let counts = with_end(image, counts, mark)?;
     let counts = with_failure(counts, mark)?;
-    with_start(image, counts, mark)
+    let counts = with_start(image, counts, mark)?;
+    with_try(image, counts, mark)
 }
 
 /// Returns the number of command edges that have ended. None if it is too large for a `u64`.

@@ -16,4 +16,7 @@ pub struct Counts {
     pub not_started: u64,
     /// The number of edges that failed, with or without a command.
     pub failed: u64,
+    /// The number of edges that have started, or failed for another reason than a missing input. If it is 0, nothing
+    /// ran.
+    pub tried: u64,
 }

@@ -14,4 +14,7 @@ pub struct Display<'a> {
     /// The template of the text before a label, as ninja's `NINJA_STATUS`: a percent sign and the byte after it are a
     /// placeholder. An unknown placeholder has no text.
     pub template: &'a [u8],
+    /// The number of columns of the terminal. A progress line that is longer is cut in its middle. If it is 0, the
+    /// number isn't known, and the terminal cuts the line at its end.
+    pub width: usize,
 }

@@ -17,6 +17,7 @@ mod counting;
 mod counts;
 mod display;
 mod edge_command;
+mod eliding;
 mod failures;
 mod line_feeds;
 mod lines;

@@ -9,6 +9,7 @@ ghost use Rattle.plan_progress.specs.BuildLines.{look_of};
 use crate::counts::Counts;
 use crate::display::Display;
 use crate::edge_command::command_of;
+use crate::eliding::elided;
 use crate::names::{has_command, is_console, label_of};
 use crate::numbers::Numbers;
 use crate::pace::Pace;
@@ -73,14 +74,16 @@ fn first_line(alloc: Global, text: &[u8]) -> Result<Vec<u8>, AllocError>
 /// Returns the line that a terminal shows in place of the one before it.
 fn terminal_line(
     alloc: Global,
+    width: usize,
     template: &[u8],
     numbers: Numbers,
     label: &[u8],
 ) -> Result<Vec<u8>, AllocError>
-    ensures { IfOk result (λ line. line.items ≡ defined.terminal_line template.now numbers label.now) }
+    ensures { IfOk result (λ line. line.items ≡ defined.terminal_line width template.now numbers label.now) }
 {
     let label = first_line(alloc, label)?;
     let text = progress(alloc, template, numbers, &label)?;
+    let text = elided(alloc, width, &text)?;
     concatenate(
         alloc,
         &[b"\r\x1b[K\x1b[?7l".as_slice(), text.as_slice(), b"\x1b[?7h"],
@@ -97,7 +100,7 @@ fn shown_line(
     ensures { IfOk result (λ line. line.items ≡ defined.shown_line (look_of display.now) numbers label.now) }
 {
     if display.on_terminal {
-        terminal_line(alloc, display.template, numbers, label)
+        terminal_line(alloc, display.width, display.template, numbers, label)
     } else {
         progress_line(alloc, display.template, numbers, label)
     }

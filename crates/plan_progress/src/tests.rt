@@ -124,6 +124,7 @@ fn in_pipe(style: Style) -> Display<'static> {
         on_terminal: false,
         colours: false,
         template: b"[%f/%t] ",
+        width: 0,
     }
 }
 
@@ -133,6 +134,7 @@ fn on_terminal(style: Style) -> Display<'static> {
         on_terminal: true,
         colours: true,
         template: b"[%f/%t] ",
+        width: 0,
     }
 }
 
@@ -188,6 +190,7 @@ fn numbers_by_a_template(rt: HostRuntime) -> Result<(), Fail> {
         on_terminal: false,
         colours: false,
         template: b"%s/%t %p%% %r %u %f %e %o %c: ",
+        width: 0,
     };
     let marks = [
         Mark::Took(0),
@@ -284,14 +287,14 @@ fn clean_edges_are_not_counted(rt: HostRuntime) -> Result<(), Fail> {
     Ok(())
 }
 
-/// A missing input is named, and skipped edges are counted at the end.
+/// A missing input is named. Nothing ran, so skipped edges aren't counted at the end.
 #[test]
 fn missing_input_is_named(rt: HostRuntime) -> Result<(), Fail> {
     let marks = [Mark::Failed(0, Cause::MissingInput(3)), Mark::Skipped(1, 0)];
     let text = text_of(rt.alloc(), in_pipe(Style::Labels), b"", &marks)?;
     assert_eq!(rt;
         text.as_slice(),
-        b"ninja: error: 'a.c', needed by 'a.o', missing and no known rule to make it\n1 skipped\n".as_slice()
+        b"ninja: error: 'a.c', needed by 'a.o', missing and no known rule to make it\n".as_slice()
     );
     Ok(())
 }
@@ -326,6 +329,19 @@ fn terminal_line_is_written_over(rt: HostRuntime) -> Result<(), Fail> {
         b"\r\x1b[K\x1b[?7l[0/2] CC a.o\x1b[?7h\r\x1b[K\x1b[?7l[1/2] CC a.o\x1b[?7h\nwarning\n\
           \r\x1b[K\x1b[?7l[1/2] LINK app\x1b[?7h\r\x1b[K\x1b[?7l[2/2] LINK app\x1b[?7h\n"
             .as_slice()
+    );
+    Ok(())
+}
+
+/// A line that is longer than the terminal is cut in its middle.
+#[test]
+fn long_line_is_cut_in_its_middle(rt: HostRuntime) -> Result<(), Fail> {
+    let mut display = on_terminal(Style::Labels);
+    display.width = 11;
+    let text = text_of(rt.alloc(), display, b"a.o", &[Mark::Took(0)])?;
+    assert_eq!(rt;
+        text.as_slice(),
+        b"\r\x1b[K\x1b[?7l[0/2... a.o\x1b[?7h".as_slice()
     );
     Ok(())
 }

@@ -8,8 +8,9 @@ returns g c =
     let line = c.args.line.now in
     let here = c.args.self.now in
     let there = c.in_world.result in
-    let same : display_in line there.on_terminal there.colours there.template.now ≡ display_in line here.on_terminal here.colours here.template.now
-    = ap (λ on. display_in line on there.colours there.template.now) c.in_world.ensures.on_terminal
-    ∙ ap (λ on. display_in line here.on_terminal on there.template.now) c.in_world.ensures.colours
-    ∙ ap (λ text. display_in line here.on_terminal here.colours text) c.in_world.ensures.template in
+    let same : display_in line there.on_terminal there.colours there.template.now there.width ≡ display_in line here.on_terminal here.colours here.template.now here.width
+    = ap (λ on. display_in line on there.colours there.template.now there.width) c.in_world.ensures.on_terminal
+    ∙ ap (λ on. display_in line here.on_terminal on there.template.now there.width) c.in_world.ensures.colours
+    ∙ ap (λ text. display_in line here.on_terminal here.colours text there.width) c.in_world.ensures.template
+    ∙ ap (λ w. display_in line here.on_terminal here.colours here.template.now w) c.in_world.ensures.width in
     subst (λ (look : Look). SaysBuilt (as_build g.row.H.Denot g.H.Outputs.taken g.H.Stopwatch.showed look) g.W.World.allows line c.args.jobs c.build_line.result) same c.build_line.ensures
