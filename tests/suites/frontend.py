@@ -65,6 +65,7 @@ MODES = """debugging modes:
 multiple modes can be enabled via -d FOO -d BAR
 """
 WARNINGS = "warning flags:\n  phonycycle={err,warn}  phony build statement references itself\n"
+TOOLS = "there are clean, commands, targets, compdb, recompact, restat, cleandead and explain"
 POSSIBLE = "possibilities: '--version' '--verbose'\n"
 
 
@@ -126,8 +127,9 @@ SAME = {
     "-d list": Said(1, MODES),
     "-dlist a": Said(1, MODES),
     "-w list": Said(1, WARNINGS),
-    "-t nosuch": refused("fatal: unknown tool 'nosuch'"),
-    "-t nosuch -C nosuch": refused("fatal: unknown tool 'nosuch'"),
+    "-t claen": refused("fatal: unknown tool 'claen', did you mean 'clean'?"),
+    "-d keepdepfile": DONE,
+    "-w dupbuild=err": DONE,
     "-x": misused("invalid option -- 'x'"),
     "-vx3": misused("invalid option -- 'x'"),
     "a -J": misused("invalid option -- 'J'"),
@@ -163,7 +165,9 @@ OWN = {
     "--version -j x": Said(0, "1.9.0\n"),
     "-l .5": Said(0, NO_WORK, "ninja: warning: -l .5 has no effect\n"),
     "-d stats": Said(0, NO_WORK, "ninja: warning: -d stats has no effect\n"),
-    "-w dupbuild=err": Said(0, NO_WORK, "ninja: warning: -w dupbuild=err has no effect\n"),
+    "-w dupbuild=warn": Said(0, NO_WORK, "ninja: warning: -w dupbuild=warn has no effect\n"),
+    "-t query": refused(f"fatal: unknown tool 'query'; {TOOLS}"),
+    "-t nosuch -C nosuch": refused(f"fatal: unknown tool 'nosuch'; {TOOLS}"),
     "a -t list": refused("fatal: 'a' comes before -t; it is no word of the tool"),
     "bad": Said(1, "[1/1] false\nFAILED: [code=1] bad \nfalse\n" + STOPPED),
 }
@@ -352,11 +356,22 @@ def refused_manifest(place: Place) -> None:
     texts = {
         f"{rule}  depfile\n": "ninja: error: build.ninja:3: expected '=' [11 ExpectedEquals]\n"
                               "  depfile\n         ^ near here\n",
-        "build a: nosuch b\n": "ninja: error: build.ninja:1: unknown build rule [31 UnknownRule]\n"
-                               "build a: nosuch b\n^ near here\n",
-        "include nosuch\n": "ninja: error: loading 'nosuch': No such file or directory [20 SourceMissing]\n",
+        "x = nosuch\ninclude $x\n": "ninja: error: loading 'nosuch': No such file or directory [20 SourceMissing]\n",
         "build a: phony b\nbuild b: phony a\n": "ninja: error: dependency cycle: a -> b [51 Cycle]\n",
-        f"{rule}build a: r\nbuild a: r\n": "ninja: error: multiple rules generate a [50 TwoProducers]\n",
+        f"{rule}build a: r\nbuild c | b  a: r\n": "ninja: error: build.ninja:4: multiple rules generate a "
+                                                "[50 TwoProducers]\nbuild c | b  a: r\n              ^ near here\n",
+        f"{rule}build a a: r\n": "ninja: error: build.ninja:3: multiple rules generate a [50 TwoProducers]\n"
+                                "build a a: r\n       ^ near here\n",
+        f"{rule}x = a\nbuild a: r\nbuild $x: r\n": "ninja: error: build.ninja:5: multiple rules generate a "
+                                                  "[50 TwoProducers]\nbuild $x: r\n^ near here\n",
+        f"{rule}build a$:5: r\nbuild a$:5: r\n": "ninja: error: build.ninja:4: multiple rules generate a:5 "
+                                               "[50 TwoProducers]\nbuild a$:5: r\n^ near here\n",
+        f"{rule}build a: r\n  pool = p\n": "ninja: error: build.ninja:4: unknown pool name 'p' [33 UnknownPool]\n"
+                                        "  pool = p\n          ^ near here\n",
+        f"{rule}  pool = p\nbuild a: r\n": "ninja: error: build.ninja:4: unknown pool name 'p' [33 UnknownPool]\n"
+                                        "build a: r\n^ near here\n",
+        "pool p\n\nbuild a: phony\n": "ninja: error: build.ninja:1: expected 'depth =' line [17 BadPool]\n"
+                                     "pool p\n      ^ near here\n",
         f"{rule}build a: r\ndefault b\n": "ninja: error: unknown target 'b' [52 UnknownDefault]\n",
         f"{rule}  rspfile = x\nbuild a: r\n":
             "ninja: error: build.ninja:4: response files (rspfile) are not supported [37 Rspfile]\n"
@@ -366,6 +381,58 @@ def refused_manifest(place: Place) -> None:
     for text, wanted in texts.items():
         programs.write({"build.ninja": text}, place.folder)
         expect(f"said of {text!r}", ("", wanted, 1), says(place))
+
+
+# Manifests, the number and the name of their refusal, and ninja's message.
+POINTED = {
+    "build a: nosuch b\n": ("31 UnknownRule", "build.ninja:1: unknown build rule 'nosuch'\n"
+                                              "build a: nosuch b\n         ^ near here\n"),
+    "build a$:b $\n  c: r\n": ("31 UnknownRule", "build.ninja:2: unknown build rule 'r'\n  c: r\n     ^ near here\n"),
+    "\ninclude  no.ninja\n": ("20 SourceMissing", "build.ninja:2: loading 'no.ninja': No such file or directory\n"
+                                                  "include  no.ninja\n                 ^ near here\n"),
+    "subninja no.ninja\n": ("20 SourceMissing", "build.ninja:1: loading 'no.ninja': No such file or directory\n"
+                                                "subninja no.ninja\n                 ^ near here\n"),
+    "rule a\n  command = x\nrule a\n  command = y\n": ("30 DuplicateRule", "build.ninja:3: duplicate rule 'a'\n"
+                                                                         "rule a\n      ^ near here\n"),
+    "pool a\n  depth = 1\npool a\n  depth = 1\n": ("32 DuplicatePool", "build.ninja:3: duplicate pool 'a'\n"
+                                                                     "pool a\n      ^ near here\n"),
+    "pool a\n  depth = -1\n": ("42 BadDepth", "build.ninja:2: invalid pool depth\n"
+                                              "  depth = -1\n            ^ near here\n"),
+    "pool a\n  deep = 1\n": ("17 BadPool", "build.ninja:2: unexpected variable 'deep'\n"
+                                           "  deep = 1\n          ^ near here\n"),
+    "rule a\n  command = x\n  x = 1\n": ("15 UnknownRuleVariable", "build.ninja:3: unexpected variable 'x'\n"
+                                                                   "  x = 1\n       ^ near here\n"),
+}
+
+
+def pointed(place: Place) -> None:
+    """A refusal names what is wrong, and the caret is where ninja has it."""
+    ninja = shutil.which("ninja")
+    for text, (code, wanted) in POINTED.items():
+        programs.write({"build.ninja": text}, place.folder)
+        head, line, caret, _ = f"ninja: error: {wanted}".split("\n")
+        expect(f"said of {text!r}", ("", f"{head} [{code}]\n{line}\n{caret}\n", 1), says(place))
+        if ninja:
+            expect(f"ninja said of {text!r}", f"{head}\n{line}\n{caret}\n".encode(),
+                   programs.run([ninja], place.folder).stderr)
+
+
+def included_twice(place: Place) -> None:
+    """A missing file is found in a file that is included."""
+    texts = {"build.ninja": "include a\nsubninja b\n", "a": "x = 1\n", "b": "y = 2\n\nsubninja no\n"}
+    programs.write(texts, place.folder)
+    expect("said", ("", "ninja: error: b:3: loading 'no': No such file or directory [20 SourceMissing]\n"
+                        "subninja no\n           ^ near here\n", 1), says(place))
+
+
+def too_many_paths(place: Place) -> None:
+    """The build statement that has too many paths for an image is named."""
+    inputs = " ".join(f"i{number}" for number in range(40_000))
+    programs.write({"build.ninja": f"rule r\n  command = true\nbuild a: r\nbuild b: r {inputs}\n"}, place.folder)
+    printed, error, status = says(place)
+    expect("printed and status", ("", 1), (printed, status))
+    expect("said", "ninja: error: build.ninja:4: the build statement of b has 40001 paths; the limit is 65,536 steps "
+                   "for each statement, two or more for each path [100 Limit]", error.split("\n")[0])
 
 
 def long_line(place: Place) -> None:
@@ -570,7 +637,7 @@ def closed_streams(place: Place) -> None:
 
 
 def reader_goes_away(place: Place) -> None:
-    """`| head -1` ends the program soon, with a fault."""
+    """`| head -1` ends the program soon, with a fault. The reason why a command doesn't start may come before it."""
     place.write(*(f"{'long' * 40}{number} true" for number in range(1000)))
     child = subprocess.Popen([place.builder, "-j1"], cwd=place.folder, stdout=subprocess.PIPE, stderr=subprocess.PIPE,
                              stdin=subprocess.DEVNULL)
@@ -580,7 +647,9 @@ def reader_goes_away(place: Place) -> None:
     error = child.stderr.read()
     child.stderr.close()
     expect("status", 1, child.wait(PATIENCE))
-    expect("said", b"ninja: error: standard output can't be written [133 FileFault]\n", error)
+    reason, _, said = error.decode().rpartition("broken pipe\n")
+    expect("said", "ninja: error: standard output can't be written [133 FileFault]\n", said)
+    expect("line feeds before it", 0, reason.count("\n"))
 
 
 def as_stranger() -> None:
@@ -718,7 +787,8 @@ def nested_build(place: Place) -> None:
 
 TRIALS: tuple[Callable[[Place], None], ...] = (
     called_ninja, about, nothing_to_do, dry_runs, dry_run_of_the_manifest, dry_run_of_restat_commands, failures,
-    limited_jobs, another_folder, missing_manifest, refused_manifest, long_line, manifest_makes_itself,
+    limited_jobs, another_folder, missing_manifest, refused_manifest, pointed,
+    included_twice, too_many_paths, long_line, manifest_makes_itself,
     manifest_never_settles, manifest_fails, manifest_as_target, closed_streams, reader_goes_away, read_only_folder,
     console_reads_the_terminal,
     key_ends_all(b"\x03", signal.SIGINT), key_ends_all(b"\x1c", signal.SIGQUIT), ctrl_z, killed, half_outputs_run_again,

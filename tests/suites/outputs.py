@@ -5,12 +5,14 @@ label begins. plan_build removes escape sequences, unless standard output is a t
 """
 from __future__ import annotations
 
+import fcntl
 import functools
 import os
 import pathlib
 import pty
 import re
 import subprocess
+import time
 from collections.abc import Iterator
 from typing import Dict, List
 
@@ -103,6 +105,34 @@ def sequences(builder: str, text: str, plain: bytes, whole: bytes, folder: pathl
     yield compared(on_terminal([builder], folder, {}), plain)
 
 
+def slow_reader(words: List[str], bytes_of_each: int, folder: pathlib.Path) -> str:
+    """Builds into a pipe in non-blocking mode that is read slowly. Nothing may be lost."""
+    command = f"yes $out | head -c {bytes_of_each}; touch $out"
+    edges = "".join(f"build out{number}: r\n" for number in range(4))
+    programs.write({"build.ninja": f"rule r\n  command = {command}\n  description = $out\n{edges}"}, folder)
+    reader, writer = os.pipe()
+    fcntl.fcntl(writer, fcntl.F_SETFL, fcntl.fcntl(writer, fcntl.F_GETFL) | os.O_NONBLOCK)
+    child = subprocess.Popen(words, cwd=folder, stdin=subprocess.DEVNULL, stdout=writer, stderr=subprocess.PIPE)
+    os.close(writer)
+    found = b""
+    while True:
+        part = os.read(reader, 8192)
+        found += part
+        if not part:
+            break
+        time.sleep(0.001)
+    os.close(reader)
+    assert child.stderr
+    said = child.stderr.read()
+    child.stderr.close()
+    lines = [line for line in found.splitlines(True) if not line.startswith(b"[")]
+    wanted = sorted(f"out{number}\n" * (bytes_of_each // 5) for number in range(4))
+    shown = sorted(f"out{number}\n" * lines.count(f"out{number}\n".encode()) for number in range(4))
+    if (child.wait(), said, shown == wanted, len(found.splitlines()) - len(lines)) != (0, b"", True, 4):
+        return f"status {child.returncode}, {len(found)} bytes, and {said!r}"
+    return ""
+
+
 def cases(setting: Setting) -> Iterator[Case]:
     """Yields a case for each command, with each program."""
     builder = programs.front(setting.program)
@@ -110,5 +140,6 @@ def cases(setting: Setting) -> Iterator[Case]:
         yield Case(f"run, {name}", functools.partial(shown_by_run, setting.program, command, wanted))
     for name, (command, wanted) in SHOWN.items():
         yield Case(f"build, {name}", functools.partial(shown_by_build, builder, command, wanted))
+    yield Case("slow reader", functools.partial(slow_reader, [builder, "-j", "2"], 400_000))
     for name, (text, plain, whole) in SEQUENCES.items():
         yield Case(f"sequences, {name}", functools.partial(sequences, builder, text, plain, whole))

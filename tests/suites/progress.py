@@ -6,14 +6,17 @@ text before labels by NINJA_STATUS, in a pipe and on a terminal.
 """
 from __future__ import annotations
 
+import fcntl
 import functools
 import os
 import pathlib
 import pty
 import re
 import shutil
+import struct
 import subprocess
 import sys
+import termios
 import time
 from collections.abc import Iterator, Sequence
 from typing import Callable, List, NamedTuple, Tuple
@@ -366,19 +369,25 @@ SENTENCE = "ninja: error: 'nosuch', needed by 'out', missing and no known rule t
 
 
 def missing(build: str, builder: str, folder: pathlib.Path) -> None:
-    """A missing source has ninja's sentence, without a label. It is printed on standard output."""
+    """A missing source has ninja's sentence and nothing else, since nothing ran. It is printed on standard output."""
     programs.write({"build.ninja": f"rule touch\n  command = touch $out\n{build}"}, folder)
-    expect("said", (SENTENCE + STOPPED, "", 1), says(builder, folder))
+    expect("said", (SENTENCE, "", 1), says(builder, folder))
     ninja = shutil.which("ninja")
     if ninja:
         expect("ninja said", ("", SENTENCE, 1), says(ninja, folder))
 
 
 def missing_with_others(builder: str, folder: pathlib.Path) -> None:
-    """With -k 0 the other edges are built, and those that need the failed one are counted."""
-    write(folder, [Edge("out", "touch $out", "nosuch"), Edge("a", "touch $out", "out"), Edge("b", "touch $out", "a")])
+    """With -k 0 the other edges are built. If one is, those that need the failed one are counted."""
+    edges = [Edge("out", "touch $out", "nosuch"), Edge("a", "touch $out", "out"), Edge("b", "touch $out", "a")]
+    write(folder, edges)
+    expect("said", (SENTENCE, "", 1), says(builder, folder, "-k", "0"))
+    write(folder, [*edges, Edge("c", "touch $out")])
     stopped = "ninja: build stopped: cannot make progress due to previous errors.\n"
-    expect("said", (f"{SENTENCE}2 skipped\n{stopped}", "", 1), says(builder, folder, "-k", "0"))
+    printed, error, status = says(builder, folder, "-k", "0", "-j", "1")
+    expect("said with another", ("", 1), (error, status))
+    expect("lines", sorted([SENTENCE, "[1/2] c\n", "2 skipped\n", stopped]),
+           sorted(re.sub(r"\[\d/\d\]", "[1/2]", printed).splitlines(True)))
 
 
 # ---- standard output that can't be written
@@ -390,6 +399,22 @@ def lost(redirection: str, builder: str, folder: pathlib.Path) -> None:
                           stderr=subprocess.PIPE, timeout=programs.SECONDS)
     expect("said", (LOST_OUTPUT.encode(), 1), (done.stderr, done.returncode))
     check((folder / "b").exists(), "b isn't built")
+
+
+def closed_pipe(words: Sequence[str], builder: str, folder: pathlib.Path) -> None:
+    """If nobody reads the output any more, commands that run are waited for, and no further one begins."""
+    write(folder, [Edge(f"out{number}", "sleep 0.02; touch $out") for number in range(200)])
+    child = subprocess.Popen([builder, "-j", "2", *words], cwd=folder, stdin=subprocess.DEVNULL, stdout=subprocess.PIPE,
+                             stderr=subprocess.PIPE)
+    assert child.stdout and child.stderr
+    expect("first line", b"[1/200] ", child.stdout.readline()[:8])
+    child.stdout.close()
+    said = child.stderr.read()
+    child.stderr.close()
+    expect("status and end", (1, True), (child.wait(timeout=PATIENCE), said.endswith(LOST_OUTPUT.encode())))
+    made = sum(1 for name in os.listdir(folder) if name.startswith("out"))
+    check(made < 100, f"{made} commands ran")
+    expect("next", 0, programs.run([builder], folder).returncode)
 
 
 # ---- ninja
@@ -404,12 +429,14 @@ def ninja_counts(folder: pathlib.Path) -> None:
 
 # ---- on a terminal
 
-def on_terminal(builder: str, folder: pathlib.Path, kind: str, *words: str, **more: str) -> tuple[bytes, int]:
+def on_terminal(builder: str, folder: pathlib.Path, kind: str, *words: str, columns: int = 0,
+                **more: str) -> tuple[bytes, int]:
     """Builds with standard output on a terminal of this kind, and returns what was written to it, and the status.
 
-    `more` are variables of the environment.
+    The terminal doesn't know its width if `columns` is 0. `more` are variables of the environment.
     """
     terminal, other = pty.openpty()
+    fcntl.ioctl(other, termios.TIOCSWINSZ, struct.pack("HHHH", 24 if columns else 0, columns, 0, 0))
     done = subprocess.Popen([builder, *words], cwd=folder, stdin=subprocess.DEVNULL, stdout=other, stderr=other,
                             env={"PATH": "/usr/bin:/bin", "TERM": kind, **more})
     os.close(other)
@@ -471,6 +498,33 @@ def failed_in_red(builder: str, folder: pathlib.Path) -> None:
             done = subprocess.run([program], cwd=folder, stdin=subprocess.DEVNULL, capture_output=True,
                                   timeout=programs.SECONDS, env={**os.environ, "CLICOLOR_FORCE": forced})
             expect(f"{program} printed red with CLICOLOR_FORCE={forced}", wanted, RED in done.stdout)
+
+
+# The label, and what is shown of it by the columns of the terminal.
+LABEL_OF_42 = "abcdefghijklmnopqrstuvwxyz0123456789"
+CUT = {20: "[1/1] ab...23456789", 21: "[1/1] abc...123456789", 41: "[1/1] abcdefghijklm...rstuvwxyz0123456789",
+       42: f"[1/1] {LABEL_OF_42}", 3: "..."}
+
+
+def last_line(builder: str, folder: pathlib.Path, label: str, columns: int, **more: str) -> str:
+    """Builds on a terminal with this number of columns, and returns the last line without escape sequences."""
+    folder.mkdir()
+    programs.write({"build.ninja": f"rule r\n  command = touch $out\n  description = {label}\nbuild a: r\n"}, folder)
+    shown, status = on_terminal(builder, folder, "xterm", columns=columns, **more)
+    expect("status", 0, status)
+    return re.sub(rb"\x1b\[[?0-9]*[a-zA-Z]", b"", shown).strip().split(b"\r")[-1].decode()
+
+
+def cut_in_the_middle(builder: str, folder: pathlib.Path) -> None:
+    """A line that is too long for the terminal is cut in its middle, as by ninja, so that its end is shown."""
+    ninja = shutil.which("ninja")
+    for program in [builder] + [ninja] * (ninja is not None):
+        for columns, wanted in CUT.items():
+            place = folder / f"{pathlib.Path(program).name}{columns}"
+            expect(f"{program} on {columns} columns", wanted, last_line(program, place, LABEL_OF_42, columns))
+    expect("by COLUMNS", CUT[20], last_line(builder, folder / "set", LABEL_OF_42, 0, COLUMNS="20"))
+    expect("unknown width", CUT[42], last_line(builder, folder / "unset", LABEL_OF_42, 0, COLUMNS="wide"))
+    expect("other characters", f"[1/1] {'ä' * 40}", last_line(builder, folder / "other", "ä" * 40, 20))
 
 
 def dumb_terminal(builder: str, folder: pathlib.Path) -> None:
@@ -627,6 +681,8 @@ def cases(setting: Setting) -> Iterator[Case]:
         yield Case(f"missing source {kind}", functools.partial(missing, build, builder))
     for redirection in (">&-", ">/dev/full"):
         yield Case(f"output {redirection}", functools.partial(lost, redirection, builder))
+    for words in ((), ("-k", "0")):
+        yield Case(f"closed pipe {' '.join(words)}", functools.partial(closed_pipe, words, builder))
     for name, edges, words, status, rows in SHOWN:
         yield Case(f"terminal {name}", functools.partial(screen_is, edges, words, status, rows, builder))
     for name, (template, lines) in TEMPLATES.items():
@@ -639,6 +695,7 @@ def cases(setting: Setting) -> Iterator[Case]:
         failures_side_by_side, while_the_console_is_used, manifest_made_again, large, failure_among_many,
         clean_after_a_restat, missing_with_others, numbers_side_by_side, missing_source_has_started,
         times, time_left, rate_of_the_last, only_command_on_terminal, numbers_on_terminal, failed_in_red,
-        label_before_a_console_command, outputs_are_limited, lost_outputs_are_dropped, ended_edges_take_little)
+        cut_in_the_middle, label_before_a_console_command, outputs_are_limited, lost_outputs_are_dropped,
+        ended_edges_take_little)
     for trial in trials:
         yield Case(trial.__name__.replace("_", " "), functools.partial(trial, builder))

@@ -459,7 +459,8 @@ def reader_goes_away(place: Place) -> None:
 def refused_manifest(place: Place) -> None:
     """A refusal has the line and a caret, and nothing is removed."""
     programs.write({"build.ninja": "rule r\n  command = true\nbuild a: r\nbuild b: nosuch\n", "a": ""}, place.folder)
-    wanted = ("", "ninja: error: build.ninja:4: unknown build rule [31 UnknownRule]\nbuild b: nosuch\n^ near here\n", 1)
+    said = "ninja: error: build.ninja:4: unknown build rule 'nosuch' [31 UnknownRule]\n"
+    wanted = ("", f"{said}build b: nosuch\n         ^ near here\n", 1)
     for words in ("clean", "commands", "compdb", "targets", "recompact", "cleandead"):
         expect(f"said by {words}", wanted, says(place, "-t", words))
     expect("files", ["a", "build.ninja"], sorted(os.listdir(place.folder)))
