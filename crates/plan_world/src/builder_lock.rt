@@ -200,8 +200,8 @@ impl<F> BuilderLock<F> {
 
 impl<F: OpenFile> BuilderLock<F> {
     /// Returns the time now, by the clock from which files of this file system get their stamps: that of the lock's
-    /// file after it was set to the length that it has. For a builder that only reads, it is the time at which it opened
-    /// the record. Returns None if a builder above holds the lock, or if that fails.
+    /// file after it was set to the length that it has. For a builder that only reads, it is the time at which it
+    /// opened the record. Returns None if a builder above holds the lock, or if that fails.
     pub(crate) fn now(&self) -> Option<u64> {
         let Some(file) = &self.file else {
             return self.opened;

@@ -15,7 +15,7 @@ use plan_machine::Reply;
 use plan_output::shown_output;
 use plan_text::RowList;
 use std::alloc::{AllocError, Global};
-use std::io::{self, Read, Write};
+use std::io::{self, ErrorKind, Read, Write};
 use std::path::Path;
 use std::process::{Child, Command, ExitStatus, OpenProcess, Processes};
 use std::rt::Files;
@@ -155,10 +155,12 @@ fn run_on_terminal<R: Wait, S: Shells>(
     Ok(status.code())
 }
 
-/// Reports on standard error why the shell of an edge's command could not be run, if it could not.
+/// Reports on standard error why the shell of an edge's command could not be run, if it could not. Reports nothing if
+/// nobody reads what commands print: then no command is started, and the program says so when it ends.
 fn say_if_lost<R: Eprint>(rt: &R, output: &[u8], ended: Result<Option<i32>, DeviceFault>) {
-    if let Err(fault) = ended {
-        say(rt, "can't start the command of", output, fault);
+    match ended {
+        Ok(_) | Err(DeviceFault::System(ErrorKind::BrokenPipe)) => {}
+        Err(fault) => say(rt, "can't start the command of", output, fault),
     }
 }
 

@@ -1,6 +1,6 @@
 //! Moves the entries of a manifest from the record that it used before to a record of its own.
 
-use crate::builder_lock::SharedFile;
+use crate::builder_lock::{BuilderLock, SharedFile};
 use crate::fault::{DeviceFault, OpenFault};
 use crate::maintenance::locked_record;
 use crate::ninja_log::NinjaLog;
@@ -96,6 +96,42 @@ where
     put(rt, from, to, &parted, &file.metadata()?)
 }
 
+/// Moves entries like `take_over`, from a record whose lock this builder has asked for. Does nothing if a builder above
+/// this one holds it.
+fn take_held<R: Files + AllocGlobal>(
+    rt: &R,
+    from: &str,
+    to: &str,
+    own: &PathFilter,
+    lock: &BuilderLock<R::File>,
+    file: &mut RecordFile<R::File>,
+) -> Result<(), DeviceFault>
+where
+    R::File: Read + Write + Seek + OpenFile + SharedFile + Drop,
+{
+    if !lock.is_held() || fs::exists(rt, to)? {
+        return Ok(());
+    }
+    file.lock()?;
+    let moved = move_entries(rt, from, to, own, file);
+    file.unlock();
+    moved
+}
+
+/// Moves entries like `take_over`, from a record that is there. Asks for its lock first.
+fn take_locked<R: Files + Env + Clock + Eprint + AllocGlobal + Clone + Drop>(
+    rt: &R,
+    from: &str,
+    to: &str,
+    own: &PathFilter,
+) -> Result<(), DeviceFault>
+where
+    R::File: Read + Write + Seek + OpenFile + SharedFile + Drop,
+{
+    let (lock, mut file) = locked_record(rt, from)?;
+    take_held(rt, from, to, own, &lock, &mut file)
+}
+
 /// Moves entries like `take_over`.
 fn take<R: Files + Env + Clock + Eprint + AllocGlobal + Clone + Drop>(
     rt: &R,
@@ -109,14 +145,7 @@ where
     if fs::exists(rt, to)? || !fs::exists(rt, from)? {
         return Ok(());
     }
-    let (lock, mut file) = locked_record(rt, from)?;
-    if !lock.is_held() || fs::exists(rt, to)? {
-        return Ok(());
-    }
-    file.lock()?;
-    let moved = move_entries(rt, from, to, own, &mut file);
-    file.unlock();
-    moved
+    take_locked(rt, from, to, own)
 }
 
 /// Moves the entries of the outputs in a set from one record to another one, which must not exist yet. The set may say

@@ -232,8 +232,8 @@ fn written_stamp<R: Files>(rt: &R, record: &str) -> Result<Option<u64>, DeviceFa
 }
 
 /// Takes the lock of a record. Refuses folders, devices and pipes before it creates a lock. If the record or its lock
-/// is missing and may not be created, no lock is taken, and the record is only read. Also returns whether the record was
-/// long.
+/// is missing and may not be created, no lock is taken, and the record is only read. Also returns whether the record
+/// was long.
 fn lock_or_read<R: Files + Env + Clock + Eprint + AllocGlobal + Clone + Drop>(
     rt: &R,
     record: &str,
@@ -497,8 +497,8 @@ where
         }
     }
 
-    /// Adds the begin of the command of an edge, whose start entries were just written, to others. Marks its outputs for
-    /// ninja.
+    /// Adds the begin of the command of an edge, whose start entries were just written, to others. Marks its outputs
+    /// for ninja.
     fn add_begin(
         &self,
         begins: &Begins,

@@ -1,4 +1,4 @@
-use Rattle.std.proofs.Common.{Option, List, ℕ, subst}
+use Rattle.std.proofs.Common.{List, ℕ, subst}
 use Rattle.std.specs.Prelude.{IfOk}
 use Rattle.plan_world.specs.Shells.{HasRun}
 use Rattle.plan_world.proofs.AnswerLemmas.{by_shell}
