@@ -2,7 +2,7 @@
 
 use memchr::{memmem, memrchr};
 use plan_printing::{FileSource, MANIFEST_BYTES, PlanFault, no_memory, printed_fault};
-use plan_scope::{EdgeList, PathRange, Source, evaluate, load};
+use plan_scope::{EdgeList, PathRange, Source, Tree, evaluate, load};
 use plan_text::PathFilter;
 use std::alloc::{AllocError, Global};
 use std::io::{Read, Seek, SeekFrom};
@@ -34,7 +34,8 @@ struct FileStamp {
     inode: u64,
 }
 
-/// Returns the stamp of the file at a path. Returns None if there is no file, or if it may be read only once, as a pipe.
+/// Returns the stamp of the file at a path. Returns None if there is no file, or if it may be read only once, as a
+/// pipe.
 fn stamp_of<R: Files>(rt: &R, path: &str) -> Option<FileStamp> {
     match fs::metadata(rt, path) {
         Ok(found) if found.is_file() => Some(FileStamp {
@@ -204,8 +205,8 @@ impl Search {
         self.search_parts(rt.alloc(), &mut file)
     }
 
-    /// Searches the file with a number. If it can't be read, the manifest has to be evaluated. What may be read only once
-    /// isn't searched.
+    /// Searches the file with a number. If it can't be read, the manifest has to be evaluated. What may be read only
+    /// once isn't searched.
     fn search_file<R: Files + AllocGlobal>(
         &mut self,
         rt: &R,
@@ -320,6 +321,18 @@ fn set_of(alloc: Global, edges: &EdgeList) -> Result<PathFilter, AllocError> {
     Ok(set)
 }
 
+/// Returns the set of the outputs and the depfiles of a tree.
+fn names_of(alloc: Global, tree: &Tree) -> Result<PathFilter, PlanFault> {
+    let manifest = match evaluate(alloc, tree) {
+        Ok(manifest) => manifest,
+        Err(fault) => return Err(printed_fault(alloc, &fault)),
+    };
+    match set_of(alloc, &manifest.edges) {
+        Ok(set) => Ok(set),
+        Err(_) => Err(no_memory(alloc)),
+    }
+}
+
 /// Returns the set of the outputs and the depfiles of a manifest, which are what its entries in a record are named by.
 ///
 /// # Errors
@@ -330,16 +343,8 @@ pub fn recorded_names<R: Files + Eprint + AllocGlobal>(
 ) -> Result<PathFilter, PlanFault> {
     let alloc = rt.alloc();
     let mut files = FileSource::new(rt, MANIFEST_BYTES);
-    let tree = match load(alloc, &mut files, manifest) {
-        Ok(tree) => tree,
-        Err(fault) => return Err(printed_fault(alloc, &fault)),
-    };
-    let manifest = match evaluate(alloc, &tree) {
-        Ok(manifest) => manifest,
-        Err(fault) => return Err(printed_fault(alloc, &fault)),
-    };
-    match set_of(alloc, &manifest.edges) {
-        Ok(set) => Ok(set),
-        Err(_) => Err(no_memory(alloc)),
+    match load(alloc, &mut files, manifest) {
+        Ok(tree) => names_of(alloc, &tree),
+        Err(fault) => Err(printed_fault(alloc, &fault)),
     }
 }

@@ -117,8 +117,8 @@ pub fn no_work<R: Print + Clock + AllocGlobal, E: Print>(rt: &R, errors: &E) -> 
     status_after(say(rt, errors, &[b"ninja: no work to do.\n"]), 0)
 }
 
-/// Prints how the build of a manifest ended, in ninja's words. `allowed` is the value of `-k`. Returns the exit status of the build, or 1 if `no work to do` can't be written. That failure
-/// is reported on standard error.
+/// Prints how the build of a manifest ended, in ninja's words. `allowed` is the value of `-k`. Returns the exit status
+/// of the build, or 1 if `no work to do` can't be written. That failure is reported on standard error.
 pub fn end_build<R: Print + Clock + AllocGlobal, E: Print>(
     rt: &R,
     errors: &E,

@@ -49,8 +49,8 @@ use std::io::ErrorKind;
 use std::mem::forget;
 use std::process::ExitCode;
 use std::rt::{Clock, Env, Files};
-use std::sync::Wait;
-use std::thread::Threads;
+use std::sync::{Mutex, Wait};
+use std::thread::{Parker, Threads};
 use std::{env, fs, str, thread};
 
 /// Returns how many commands run at once if `-j` isn't given, like ninja: two for one processor, three for two, and
@@ -234,9 +234,10 @@ fn room_for(bytes: u64) -> usize {
 fn cache_over<'a, R: Files + Eprint + AllocGlobal, E: Print, W: World + Drop>(
     rt: &'a R,
     errors: &E,
-    manifest: &[u8],
+    line: &CommandLine,
     world: W,
 ) -> Result<StampCache<'a, R, W>, u8> {
+    let manifest = manifest_in(line);
     let bytes = match fs::metadata(rt, str::from_utf8(manifest).unwrap_or("")) {
         Ok(found) => found.len(),
         Err(_) => 0,
@@ -438,8 +439,8 @@ fn has_stopped_commands(rt: &HostRuntime) -> bool {
     }
 }
 
-/// Returns the number of columns of the terminal on which lines are written over. Returns 0 if it isn't known or there is
-/// no such terminal.
+/// Returns the number of columns of the terminal on which lines are written over. Returns 0 if it isn't known or there
+/// is no such terminal.
 fn width_of(rt: &HostRuntime) -> usize {
     if is_smart_terminal(rt) {
         terminal_width(rt)
@@ -448,60 +449,129 @@ fn width_of(rt: &HostRuntime) -> usize {
     }
 }
 
+/// The terminal to which standard output goes.
+#[derive(Clone, Copy)]
+struct Terminal {
+    /// Whether lines are written over on it.
+    is_smart: bool,
+    /// Whether escape sequences are wanted.
+    escapes: bool,
+    /// The number of columns, or 0 if it isn't known.
+    width: usize,
+}
+
+/// Returns what is known of the terminal to which standard output goes, if it is one.
+fn terminal_of(rt: &HostRuntime) -> Terminal {
+    Terminal {
+        is_smart: is_smart_terminal(rt),
+        escapes: wants_escapes(rt),
+        width: width_of(rt),
+    }
+}
+
+/// What a build needs before its record is opened.
+#[derive(Drop)]
+struct Ordered {
+    line: CommandLine,
+    /// The template of the text before a label.
+    template: String,
+    place: RecordPlace,
+    terminal: Terminal,
+    /// The number of commands at once if `-j` isn't given.
+    jobs: u8,
+}
+
+/// Reads the command line and the template of its labels, and finds the place of the record.
+///
+/// # Errors
+/// The exit status if there is nothing to build, or nothing can be built. The reason is reported on standard error.
+fn read_order<E: Print>(rt: &HostRuntime, errors: &E, jobs: u8) -> Result<Ordered, u8> {
+    let line = order_in(rt, errors, jobs)?;
+    let template = read_template(rt, errors)?;
+    let place = place_of(rt, errors, manifest_in(&line))?;
+    Ok(Ordered {
+        line,
+        template,
+        place,
+        terminal: terminal_of(rt),
+        jobs,
+    })
+}
+
+/// Explains or builds what is ordered, in a world, and returns the exit status.
+fn build_in<
+    R: Threads + Wait + Sync + Files + Print + Eprint + Clock + AllocGlobal,
+    E: Print,
+    W: World + RecordedWorld + Send + Sync,
+    H: Outputs + Stopwatch + WriteWatcher + Sync,
+>(
+    rt: &R,
+    errors: &E,
+    world: &StampCache<'_, R, W>,
+    order: &Ordered,
+    outputs: &H,
+    screen: &Mutex<()>,
+    parker: &Parker,
+    is_long: bool,
+) -> u8 {
+    let terminal = order.terminal;
+    let builder = Builder::new(
+        rt,
+        errors,
+        world,
+        &order.place,
+        outputs,
+        terminal.is_smart,
+        terminal.escapes,
+        order.template.as_bytes(),
+        terminal.width,
+        screen,
+        parker,
+    );
+    build(&builder, &order.line, order.jobs, is_long)
+}
+
+/// Reports that closed streams can't be replaced, and returns the exit code.
+fn refuse_streams<E: Print>(rt: &HostRuntime, errors: &E) -> ExitCode {
+    complain(
+        rt.alloc(),
+        errors,
+        &[b"ninja: fatal: /dev/null can't be opened\n"],
+    );
+    ExitCode::from(REFUSED)
+}
+
 fn main(rt: HostRuntime) -> ExitCode {
     if has_stopped_commands(&rt) {
         return ExitCode::from(0);
     }
     let errors = ErrorStream::new(&rt, rt.stderr());
     let Ok(_streams) = open_streams(&rt) else {
-        complain(
-            rt.alloc(),
-            &errors,
-            &[b"ninja: fatal: /dev/null can't be opened\n"],
-        );
-        return ExitCode::from(REFUSED);
+        return refuse_streams(&rt, &errors);
     };
-    let jobs = default_jobs(&rt);
-    let line = match order_in(&rt, &errors, jobs) {
-        Ok(line) => line,
+    let order = match read_order(&rt, &errors, default_jobs(&rt)) {
+        Ok(order) => order,
         Err(status) => return ExitCode::from(status),
     };
-    let template = match read_template(&rt, &errors) {
-        Ok(template) => template,
-        Err(status) => return ExitCode::from(status),
-    };
-    let width = width_of(&rt);
+    let (line, place) = (&order.line, &order.place);
     let outputs = HeldOutputs::new(rt.alloc(), &rt);
     let watcher = Watcher::new();
-    let place = match place_of(&rt, &errors, manifest_in(&line)) {
-        Ok(place) => place,
-        Err(status) => return ExitCode::from(status),
-    };
-    let world = match open_world(&rt, &errors, &line, &place, &outputs, &watcher) {
+    let world = match open_world(&rt, &errors, line, place, &outputs, &watcher) {
         Ok(world) => world,
         Err(status) => return ExitCode::from(status),
     };
     let is_long = !world.has_read_record();
-    let world = match cache_over(&rt, &errors, manifest_in(&line), world) {
+    let world = match cache_over(&rt, &errors, line, world) {
         Ok(world) => world,
         Err(status) => return ExitCode::from(status),
     };
-    let builder = Builder::new(
-        &rt,
-        &errors,
-        &world,
-        &place,
-        &outputs,
-        is_smart_terminal(&rt),
-        wants_escapes(&rt),
-        template.as_bytes(),
-        width,
-        world.inner().screen(),
-        world.inner().parker(),
+    let inner = world.inner();
+    let (screen, parker) = (inner.screen(), inner.parker());
+    let status = build_in(
+        &rt, &errors, &world, &order, &outputs, screen, parker, is_long,
     );
-    let status = build(&builder, &line, jobs, is_long);
     watcher.end(&rt);
-    world.inner().release();
+    inner.release();
     // The system frees its memory sooner than this program would.
     forget(world);
     ExitCode::from(status)

@@ -93,13 +93,14 @@ impl RecordPlace {
         if self.search.is_current(rt) {
             return true;
         }
-        match builddir_of(rt, manifest) {
-            Ok(now) if now.value.as_slice() != self.folder.as_bytes() => {
-                self.has_moved.store(true, Ordering::SeqCst);
-                false
-            }
-            _ => true,
+        let is_same = match builddir_of(rt, manifest) {
+            Ok(found) => found.value.as_slice() == self.folder.as_bytes(),
+            Err(_fault) => true,
+        };
+        if !is_same {
+            self.has_moved.store(true, Ordering::SeqCst);
         }
+        is_same
     }
 }
 

@@ -9,8 +9,8 @@
 //! - `write_whole`: writes to a stream that may be in non-blocking mode. `ErrorStream`: standard error, written this
 //!   way.
 //! - `FileSource`, `NewFile`: the files of the system.
-//! - `say`, `complain`, `complain_of`: print lines of plan_build, and its error messages. `reason_of_error` has the system's
-//!   words for an error of a file.
+//! - `say`, `complain`, `complain_of`: print lines of plan_build, and its error messages. `reason_of_error` has the
+//!   system's words for an error of a file.
 //!
 //! docs/using/refusals.md has the faults one by one.
 #![tactic(auto)]

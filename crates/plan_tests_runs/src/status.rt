@@ -186,8 +186,8 @@ fn print_all<C: Clock>(
     (tap, out.into_writer())
 }
 
-/// Shows marks through a ring of one while another thread prints them. Returns the number of marks that were put in, and
-/// the text that the thread has printed. None if memory runs out.
+/// Shows marks through a ring of one while another thread prints them. Returns the number of marks that were put in,
+/// and the text that the thread has printed. None if memory runs out.
 fn printed_beside<R: Threads + Wait + Sync, C: Clock + Sync>(
     rt: &R,
     clock: &C,
