@@ -22,6 +22,7 @@ import importlib
 import os
 import pathlib
 import shlex
+import signal
 import subprocess
 import sys
 import tempfile
@@ -235,8 +236,15 @@ def run_suite(asked: argparse.Namespace, suite: str, report: Report, patterns: P
         report.say(f"{suite}: {passed} passed, {failed} failed, {time.monotonic() - begun:.0f} s")
 
 
+def pass_hangups_on() -> None:
+    """Lets programs that suites start end by SIGHUP, also if `nohup` runs this script: what is ignored is inherited."""
+    if signal.getsignal(signal.SIGHUP) == signal.SIG_IGN:
+        signal.signal(signal.SIGHUP, lambda *_: None)
+
+
 def main() -> None:
     """Runs the suites of the command line."""
+    pass_hangups_on()
     asked = arguments()
     patterns = Patterns(asked.patterns)
     report = Report(asked)
