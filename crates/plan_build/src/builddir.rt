@@ -1,5 +1,6 @@
 //! The variable `builddir` of a manifest, which names the folder of the record.
 
+use crate::finding::{first_line, is_name_byte};
 use memchr::{memmem, memrchr};
 use plan_printing::{FileSource, MANIFEST_BYTES, PlanFault, no_memory, printed_fault};
 use plan_scope::{EdgeList, PathRange, Source, Tree, evaluate, load};
@@ -56,7 +57,7 @@ struct SearchedFile {
     stamp: Option<FileStamp>,
 }
 
-/// What a search of a manifest for the variable found, without evaluating the manifest.
+/// The result of a search of a manifest for the variable, without evaluating the manifest.
 #[derive(Drop)]
 pub struct Search {
     /// The manifest and the files that it includes.
@@ -83,16 +84,6 @@ fn whole_lines(text: &[u8]) -> &[u8] {
     }
 }
 
-/// Returns the bytes before the first line feed.
-fn first_line(text: &[u8]) -> &[u8] {
-    text.split(|byte| *byte == b'\n').next().unwrap_or(&[])
-}
-
-/// Checks whether a byte may be part of a name.
-fn is_of_name(byte: u8) -> bool {
-    byte.is_ascii_alphanumeric() || byte == b'_' || byte == b'-' || byte == b'.'
-}
-
 /// Checks whether a byte ends a path or has a meaning of its own in a path.
 fn is_special(byte: &u8) -> bool {
     matches!(*byte, b' ' | b'\t' | b'$' | b':' | b'|')
@@ -112,7 +103,7 @@ impl Search {
     fn push_line(&mut self, alloc: Global, line: &[u8]) -> Result<(), AllocError> {
         let rest = line.get(INCLUDE.len()..).unwrap_or(&[]);
         if let [first, ..] = rest {
-            if is_of_name(*first) {
+            if is_name_byte(*first) {
                 return Ok(());
             }
         }
@@ -205,8 +196,8 @@ impl Search {
         self.search_parts(rt.alloc(), &mut file)
     }
 
-    /// Searches the file with a number. If it can't be read, the manifest has to be evaluated. What may be read only
-    /// once isn't searched.
+    /// Searches the file with a number. If it can't be read, the manifest has to be evaluated. A file that may be read
+    /// only once isn't searched.
     fn search_file<R: Files + AllocGlobal>(
         &mut self,
         rt: &R,

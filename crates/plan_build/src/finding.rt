@@ -1,5 +1,5 @@
-//! What a message about a statement names, and where its caret is. The bytes of a statement say both, since a fault has
-//! only the number of bytes before it.
+//! Finds the name in a message about a statement, and the place of its caret. Both are found in the bytes of the
+//! statement, since a fault has only the number of bytes before it.
 
 use crate::sentences::{EXPECTED_DEPTH, UNEXPECTED_VARIABLE, sentence_of};
 
@@ -31,7 +31,7 @@ fn part_of(text: &[u8], span: Span) -> &[u8] {
 }
 
 /// Checks whether names may have a byte.
-fn is_name_byte(byte: u8) -> bool {
+pub fn is_name_byte(byte: u8) -> bool {
     byte.is_ascii_alphanumeric() | matches!(byte, b'_' | b'.' | b'-')
 }
 

@@ -469,7 +469,7 @@ fn terminal_of(rt: &HostRuntime) -> Terminal {
     }
 }
 
-/// What a build needs before its record is opened.
+/// The parts of a build that are known before its record is opened.
 #[derive(Drop)]
 struct Ordered {
     line: CommandLine,

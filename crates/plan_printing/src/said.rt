@@ -90,7 +90,7 @@ pub fn status_after(said: Result<(), u8>, status: u8) -> u8
     }
 }
 
-/// Returns the text of C's strerror for an error of a file, also for numbers of which the kit has no kind.
+/// Returns the text of C's strerror for an error of a file, also for numbers that have no kind in the kit.
 pub fn reason_of_error(error: &io::Error) -> &'static [u8] {
     match error.raw_os_error() {
         Some(23) => b"Too many open files in system",
