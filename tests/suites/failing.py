@@ -38,10 +38,11 @@ SORTS = (("stat", "1", False), ("spawn", "1", False), ("write", "1", False), ("t
          ("memory", "1", False), ("memory", "2", False), ("write", "1", True), ("memory", "1", True))
 OLD = 150  # entries of an output that no edge has any more
 # What it writes to standard error then, and what it may say of an edge.
-REASONS = {"stat": "", "spawn": r"plan_ninja: can't start the command of (mid|out): operation would block\n",
-           "write": (r"(plan_ninja: can't write /.*/\.plan_record: no storage space\n"
+NO_PROCESS, NO_SPACE = (r"Resource temporarily unavailable \(os error 11\)", r"No space left on device \(os error 28\)")
+REASONS = {"stat": "", "spawn": rf"plan_ninja: can't start the command of (mid|out): {NO_PROCESS}\n",
+           "write": (rf"(plan_ninja: can't write /.*/\.plan_record: {NO_SPACE}\n"
                      r"plan_ninja: can't start the command|plan_ninja: can't keep the entry)"
-                     r" of (mid|out): no storage space\n"),
+                     rf" of (mid|out): {NO_SPACE}\n"),
            "memory": ""}
 CAUSES = {"stat": ("stat fault",), "spawn": ("not started",), "write": ("not started", "record fault"), "thread": (),
           "memory": ("not started", "record fault")}

@@ -3,7 +3,8 @@
 use crate::builddir::{Builddir, Search, builddir_of, recorded_names};
 use crate::words::RECORD;
 use plan_printing::{
-    FileSource, MANIFEST_BYTES, PlanFault, REFUSED, complain_of, file_fault, no_memory, reason_of,
+    FileSource, MANIFEST_BYTES, PlanFault, REFUSED, complain_of, file_fault, no_memory,
+    reason_of_error,
 };
 use plan_scope::{Source, SourceFault};
 use plan_text::GhostCounter;
@@ -122,7 +123,7 @@ impl RecordPlace {
             Err(error) if error.kind() == ErrorKind::AlreadyExists => Ok(()),
             Err(error) => {
                 let before = b"ninja: error: creating build directory ";
-                let (folder, reason) = (self.folder.as_bytes(), reason_of(error.kind()));
+                let (folder, reason) = (self.folder.as_bytes(), reason_of_error(&error));
                 complain_of(rt.alloc(), errors, before, folder, b": ", reason);
                 Err(REFUSED)
             }

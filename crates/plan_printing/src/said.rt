@@ -93,6 +93,9 @@ pub fn status_after(said: Result<(), u8>, status: u8) -> u8
 /// Returns the text of C's strerror for an error of a file, also for numbers that have no kind in the kit.
 pub fn reason_of_error(error: &io::Error) -> &'static [u8] {
     match error.raw_os_error() {
+        Some(1) => b"Operation not permitted",
+        Some(6) => b"No such device or address",
+        Some(19) => b"No such device",
         Some(23) => b"Too many open files in system",
         Some(24) => b"Too many open files",
         _ => reason_of(error.kind()),
@@ -103,6 +106,7 @@ pub fn reason_of_error(error: &io::Error) -> &'static [u8] {
 pub fn reason_of(kind: ErrorKind) -> &'static [u8] {
     match kind {
         ErrorKind::NotFound => b"No such file or directory",
+        ErrorKind::AlreadyExists => b"File exists",
         ErrorKind::NotADirectory => b"Not a directory",
         ErrorKind::IsADirectory => b"Is a directory",
         ErrorKind::DirectoryNotEmpty => b"Directory not empty",
@@ -118,6 +122,8 @@ pub fn reason_of(kind: ErrorKind) -> &'static [u8] {
         ErrorKind::ExecutableFileBusy => b"Text file busy",
         ErrorKind::StaleNetworkFileHandle => b"Stale file handle",
         ErrorKind::TimedOut => b"Connection timed out",
+        ErrorKind::TooManyLinks => b"Too many links",
+        ErrorKind::WouldBlock => b"Resource temporarily unavailable",
         ErrorKind::InvalidInput => b"Invalid argument",
         _ => b"Input/output error",
     }

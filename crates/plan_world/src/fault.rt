@@ -8,6 +8,7 @@ use plan_machine::Reply;
 use plan_record::EntryFault;
 use plan_text::Memory as NoMemory;
 use std::alloc::{AllocError, AllocFailed};
+use std::fmt::{self, Display, Formatter};
 use std::io::{self, ErrorKind};
 use thiserror::Error;
 
@@ -43,9 +44,9 @@ pub(crate) enum DeviceFault {
     /// Memory ran out. The file may be intact.
     #[error("memory ran out")]
     Memory,
-    /// The system refused the call, for this reason.
-    #[error("{0}")]
-    System(ErrorKind),
+    /// The call was refused for this reason. The number is that of the system's error, or 0 if the system wasn't asked.
+    #[error("{words}", words = Words(*.0, *.1))]
+    System(ErrorKind, i32),
     /// One of the parts is too long for an entry.
     #[error("a path or a command is too long")]
     TooLong,
@@ -122,8 +123,22 @@ impl From<io::Error> for DeviceFault {
     fn from(error: io::Error) -> DeviceFault {
         match error.kind() {
             ErrorKind::OutOfMemory => DeviceFault::Memory,
-            kind => DeviceFault::System(kind),
+            kind => DeviceFault::System(kind, error.raw_os_error().unwrap_or(0)),
         }
+    }
+}
+
+/// Writes a reason of the system: in the words of the C library, with the number, or in those of the kind if there is
+/// no number.
+#[derive(Clone, Copy)]
+struct Words(ErrorKind, i32);
+
+impl Display for Words {
+    fn fmt<W: fmt::Write>(&self, f: &mut Formatter<W>) -> fmt::Result {
+        if self.1 == 0 {
+            return self.0.fmt(f);
+        }
+        io::Error::from_raw_os_error(self.1).fmt(f)
     }
 }
 

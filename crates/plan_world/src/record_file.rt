@@ -173,7 +173,7 @@ where
 {
     let (file, unwritable) = open_shared(rt, path)?;
     if !file.metadata()?.is_file() {
-        return Err(DeviceFault::System(ErrorKind::InvalidInput));
+        return Err(DeviceFault::System(ErrorKind::InvalidInput, 0));
     }
     Ok((file, unwritable))
 }
@@ -204,7 +204,7 @@ where
     match fs::open(rt, path) {
         Ok(file) => {
             if !file.metadata()?.is_file() {
-                return Err(DeviceFault::System(ErrorKind::InvalidInput));
+                return Err(DeviceFault::System(ErrorKind::InvalidInput, 0));
             }
             Ok(file)
         }

@@ -38,7 +38,7 @@ pub(crate) fn write_at_once<F: Write>(file: &mut F, bytes: &[u8]) -> Result<(), 
 {
     let count = file.write(bytes)?;
     if count < bytes.len() {
-        return Err(DeviceFault::System(ErrorKind::WriteZero));
+        return Err(DeviceFault::System(ErrorKind::WriteZero, 0));
     }
     Ok(())
 }
@@ -97,7 +97,7 @@ impl<F: SharedFile> RecordSink<F> {
             return Err(DeviceFault::Lost);
         }
         if let Some(kind) = self.unwritable {
-            return Err(DeviceFault::System(kind));
+            return Err(DeviceFault::System(kind, 0));
         }
         self.file.lock()?;
         Ok(())

@@ -116,7 +116,7 @@ pub(crate) fn replace_file<R: Files + AllocGlobal>(
     changed: Changed,
 ) -> Result<(), DeviceFault> {
     if like.nlink() > 1 {
-        return Err(DeviceFault::System(ErrorKind::TooManyLinks));
+        return Err(DeviceFault::System(ErrorKind::TooManyLinks, 0));
     }
     let new = format!(in rt.alloc(); "{path}.new")?;
     let replaced = create_in_place(rt, new.as_str(), path, bytes, like, changed);

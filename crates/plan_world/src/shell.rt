@@ -159,7 +159,7 @@ fn run_on_terminal<R: Wait, S: Shells>(
 /// nobody reads what commands print: then no command is started, and the program says so when it ends.
 fn say_if_lost<R: Eprint>(rt: &R, output: &[u8], ended: Result<Option<i32>, DeviceFault>) {
     match ended {
-        Ok(_) | Err(DeviceFault::System(ErrorKind::BrokenPipe)) => {}
+        Ok(_) | Err(DeviceFault::System(ErrorKind::BrokenPipe, _)) => {}
         Err(fault) => say(rt, "can't start the command of", output, fault),
     }
 }

@@ -82,7 +82,7 @@ pub(crate) fn stamp_of<R: Files>(rt: &R, path: &[u8]) -> Result<u64, DeviceFault
 {
     match str::from_utf8(path) {
         Ok(path) => found_stamp(fs::metadata(rt, path)),
-        Err(_) => Err(DeviceFault::System(ErrorKind::InvalidFilename)),
+        Err(_) => Err(DeviceFault::System(ErrorKind::InvalidFilename, 0)),
     }
 }
 

@@ -242,7 +242,7 @@ where
     R::File: Read + Write + Seek + OpenFile + SharedFile + Drop,
 {
     match lock_of(rt, record) {
-        Err(DeviceFault::System(kind)) if is_unwritable(kind) => {
+        Err(DeviceFault::System(kind, _)) if is_unwritable(kind) => {
             Ok((BuilderLock::reading(rt.alloc(), kind, time_now(rt)), false))
         }
         taken => taken,
