@@ -100,11 +100,8 @@ SAME = {
     "srx": refused("error: unknown target 'srx', did you mean 'src'?"),
     "src nosuch": refused("error: unknown target 'nosuch'"),
     "clean": refused("error: unknown target 'clean', did you mean 'ninja -t clean'?"),
-    "-j ' +3' -j0": DONE,
-    "-j -0": DONE,
     "-k -5": DONE,
     "-k ''": DONE,
-    "-j ''": DONE,
     "-f nosuch -f build.ninja": DONE,
     "-fbuild.ninja": DONE,
     "-C .": Said(0, "ninja: Entering directory `.'\n" + NO_WORK),
@@ -158,11 +155,17 @@ SAME = {
                       "ninja: fatal: chdir to 'nosuch' - No such file or directory\n"),
     "-C src": Said(1, "ninja: Entering directory `src'\n", "ninja: fatal: chdir to 'src' - Not a directory\n"),
 }
+# The value of `-j` in words to which ninja answers nothing more, whereas plan_build warns of it.
+TOO_MANY_JOBS = {"-j ' +3' -j0": "0", "-j -0": "-0", "-j ''": "", "-j1025": "1025", "-j 99999999999": "99999999999"}
+MANY_JOBS = "ninja: warning: -j {}: no more than 1024 commands run at once\n"
 # What only plan_build answers.
 OWN = {
     "--version": Said(0, "1.9.0\n"),
     "--vers nosuch": Said(0, "1.9.0\n"),
     "--version -j x": Said(0, "1.9.0\n"),
+    "-j 1024": DONE,
+    "-j0 -j 4": DONE,
+    **{words: Said(0, NO_WORK, MANY_JOBS.format(value)) for words, value in TOO_MANY_JOBS.items()},
     "-l .5": Said(0, NO_WORK, "ninja: warning: -l .5 has no effect\n"),
     "-d stats": Said(0, NO_WORK, "ninja: warning: -d stats has no effect\n"),
     "-w dupbuild=warn": Said(0, NO_WORK, "ninja: warning: -w dupbuild=warn has no effect\n"),
@@ -334,6 +337,54 @@ def limited_jobs(place: Place) -> None:
     (place.folder / "go").touch()
     child.communicate(timeout=PATIENCE)
     expect("status", 0, child.returncode)
+
+
+def run_at_once(place: Place, most: int, start: Callable[[], subprocess.Popen[bytes]]) -> str:
+    """Starts a build of 210 commands, of which this many must run at once, and returns what the builder said."""
+    outputs = [f"o{number}" for number in range(210)]
+    place.write(*(f"{output} touch begun$out; read -r line < gate; touch $out" for output in outputs))
+    os.mkfifo(place.folder / "gate")
+    child = start()
+    until(lambda: sum(place.has(f"begun{output}") for output in outputs) == most, f"{most} don't begin in time")
+    time.sleep(0.3)
+    expect("begun", most, sum(place.has(f"begun{output}") for output in outputs))
+    with open(place.folder / "gate", "r+b", buffering=0) as gate:
+        gate.write(b"\n" * len(outputs))
+        said = child.communicate(timeout=PATIENCE)[0].decode()
+    expect("status", 0, child.returncode)
+    expect("made", True, place.has(*outputs))
+    return said
+
+
+def many_jobs(place: Place) -> None:
+    """-j 200 runs 200 commands at once, and no more."""
+    said = run_at_once(place, 200, lambda: place.started("-j200"))
+    expect("lines", 210, len(said.splitlines()))
+
+
+def with_files(place: Place, files: int, *words: str) -> subprocess.Popen[bytes]:
+    """Starts the builder with a limit of open files."""
+    shell = Place("/bin/sh", place.folder)
+    child = shell.started("-c", f'ulimit -n {files}; exec "$0" "$@"', place.builder, *words)
+    place.groups.append(child)
+    return child
+
+
+def fewer_jobs_with_few_files(place: Place) -> None:
+    """If 256 files may be open, 128 commands run at once, and it says so."""
+    said = run_at_once(place, 128, lambda: with_files(place, 256, "-j200"))
+    warned = "plan_ninja: warning: no more than 128 commands run at once, by the limit of open files (ulimit -n)"
+    lines = said.splitlines()
+    expect("lines", (211, 1), (len(lines), lines.count(warned)))
+
+
+def too_few_files(place: Place) -> None:
+    """If too few files may be open, a command fails for a reason in words, and the build ends."""
+    place.write(*(f"o{number} sleep 1; touch $out" for number in range(16)))
+    child = with_files(place, 20, "-j16")
+    said = child.communicate(timeout=PATIENCE)[0].decode()
+    reasons = {line.rpartition(": ")[2] for line in said.splitlines() if line.startswith("plan_ninja: can't start")}
+    expect("reasons and status", ({"Too many open files (os error 24)"}, 1), (reasons, child.returncode))
 
 
 def another_folder(place: Place) -> None:
@@ -785,8 +836,8 @@ def nested_build(place: Place) -> None:
 
 TRIALS: tuple[Callable[[Place], None], ...] = (
     called_ninja, about, nothing_to_do, dry_runs, dry_run_of_the_manifest, dry_run_of_restat_commands, failures,
-    limited_jobs, another_folder, missing_manifest, refused_manifest, pointed,
-    included_twice, too_many_paths, long_line, manifest_makes_itself,
+    limited_jobs, many_jobs, fewer_jobs_with_few_files, too_few_files, another_folder, missing_manifest,
+    refused_manifest, pointed, included_twice, too_many_paths, long_line, manifest_makes_itself,
     manifest_never_settles, manifest_fails, manifest_as_target, closed_streams, reader_goes_away, read_only_folder,
     console_reads_the_terminal,
     key_ends_all(b"\x03", signal.SIGINT), key_ends_all(b"\x1c", signal.SIGQUIT), ctrl_z, killed, half_outputs_run_again,
@@ -808,7 +859,7 @@ def cases(setting: Setting) -> Iterator[Case]:
     builder = programs.front(setting.program)
     for words, wanted in {**SAME, **OWN}.items():
         yield Case(f"words {words}".strip(), functools.partial(words_say, builder, words, wanted))
-    for words, wanted in SAME.items():
+    for words, wanted in {**SAME, **dict.fromkeys(TOO_MANY_JOBS, DONE)}.items():
         yield Case(f"ninja {words}".strip(), functools.partial(ninja_says, words, wanted))
     for name, steps in {**SEEN, **SEEN_HERE}.items():
         yield Case(f"change {name}", functools.partial(change_is_seen, steps, False, builder))

@@ -74,7 +74,7 @@ impl<
 > Builder<'_, R, E, StampCache<'_, R, W>, H> {
     /// Builds like `build_line`. Meanwhile another thread reads the record, and this many threads ask for stamps. If
     /// the record can't be used, reports that when the build has ended. Returns the exit status.
-    pub fn build_looking_ahead(&self, line: &CommandLine, jobs: u8, threads: usize) -> u8 {
+    pub fn build_looking_ahead(&self, line: &CommandLine, jobs: u16, threads: usize) -> u8 {
         let is_over = AtomicBool::new(false);
         let (world, is_over) = (self.world, &is_over);
         let (status, read) = thread::scope(

@@ -263,7 +263,7 @@ impl<
 
     /// Builds like `build_line`, and shows before each command why it runs. To do so, observes edges.
     /// Returns the exit status.
-    pub fn build_explained(&self, line: &CommandLine, jobs: u8) -> u8
+    pub fn build_explained(&self, line: &CommandLine, jobs: u16) -> u8
         ensures { SaysBuilt (as_build H H.taken H.showed (display_in line.now self.now.on_terminal self.now.colours self.now.template.now self.now.width)) W.allows line.now jobs result }
     {
         let observing = Observing::new(self.world);
@@ -272,7 +272,7 @@ impl<
 
     /// Prints which commands would run for the targets that are the words of a tool, but runs none. If there are no
     /// words, the targets are the defaults. Returns the exit status.
-    fn preview_words(&self, line: &CommandLine, jobs: u8) -> u8 {
+    fn preview_words(&self, line: &CommandLine, jobs: u16) -> u8 {
         let alloc = self.rt.alloc();
         let (Some(options), Ok(targets)) = (
             Options::new(line.jobs().unwrap_or(jobs), line.failures()),
@@ -285,14 +285,14 @@ impl<
     }
 
     /// Prints which commands would run for the words of a tool, like `preview_words`, and why. Returns the exit status.
-    pub fn explain(&self, line: &CommandLine, jobs: u8) -> u8 {
+    pub fn explain(&self, line: &CommandLine, jobs: u16) -> u8 {
         let observing = Observing::new(self.world);
         self.in_world(&observing).preview_words(line, jobs)
     }
 
     /// Builds the targets of a command line. At most `jobs` commands run at once if `-j` isn't given. Returns the exit
     /// status.
-    pub fn build_line(&self, line: &CommandLine, jobs: u8) -> u8
+    pub fn build_line(&self, line: &CommandLine, jobs: u16) -> u8
         ensures { SaysBuilt (as_build H H.taken H.showed (display_in line.now self.now.on_terminal self.now.colours self.now.template.now self.now.width)) W.allows line.now jobs result }
     {
         let alloc = self.rt.alloc();

@@ -54,13 +54,13 @@ use std::thread::{Parker, Threads};
 use std::{env, fs, str, thread};
 
 /// Returns how many commands run at once if `-j` isn't given, like ninja: two for one processor, three for two, and
-/// otherwise two more than there are processors. The limit is 64.
-fn default_jobs<R: Threads>(rt: &R) -> u8 {
+/// otherwise two more than there are processors. The limit is 1,024.
+fn default_jobs<R: Threads>(rt: &R) -> u16 {
     match thread::available_parallelism(rt) {
         Ok(processors) => match processors.get() {
             0 | 1 => 2,
             2 => 3,
-            number => u8::try_from(number.min(62) + 2).unwrap_or(64),
+            number => u16::try_from(number.min(1022) + 2).unwrap_or(1024),
         },
         Err(_) => 2,
     }
@@ -76,7 +76,7 @@ fn names_no_target(alloc: Global, line: &CommandLine) -> bool {
 
 /// Returns how many threads ask for stamps ahead of a build: as many as there are processors that no job needs. If a
 /// target is named, or if the number of processors is unknown, there are none.
-fn threads_ahead<R: Threads + AllocGlobal>(rt: &R, line: &CommandLine, jobs: u8) -> usize {
+fn threads_ahead<R: Threads + AllocGlobal>(rt: &R, line: &CommandLine, jobs: u16) -> usize {
     if !names_no_target(rt.alloc(), line) {
         return 0;
     }
@@ -354,7 +354,7 @@ fn read_line<R: Files + Print + Eprint + Clock + AllocGlobal, E: Print>(
     rt: &R,
     errors: &E,
     words: &[String],
-    jobs: u8,
+    jobs: u16,
 ) -> Result<CommandLine, u8> {
     let alloc = rt.alloc();
     let read = match after_name(alloc, words) {
@@ -376,7 +376,7 @@ fn read_line<R: Files + Print + Eprint + Clock + AllocGlobal, E: Print>(
 ///
 /// # Errors
 /// The exit status if there is nothing to build.
-fn order_in<E: Print>(rt: &HostRuntime, errors: &E, jobs: u8) -> Result<CommandLine, u8> {
+fn order_in<E: Print>(rt: &HostRuntime, errors: &E, jobs: u16) -> Result<CommandLine, u8> {
     let words = match words_in(rt) {
         Ok(words) => words,
         Err(reason) => {
@@ -409,7 +409,7 @@ fn build<
 >(
     builder: &Builder<'_, R, E, StampCache<'_, R, W>, H>,
     line: &CommandLine,
-    jobs: u8,
+    jobs: u16,
     is_long: bool,
 ) -> u8 {
     if asks_for_reasons(line) {
@@ -478,14 +478,14 @@ struct Ordered {
     place: RecordPlace,
     terminal: Terminal,
     /// The number of commands at once if `-j` isn't given.
-    jobs: u8,
+    jobs: u16,
 }
 
 /// Reads the command line and the template of its labels, and finds the place of the record.
 ///
 /// # Errors
 /// The exit status if there is nothing to build, or nothing can be built. The reason is reported on standard error.
-fn read_order<E: Print>(rt: &HostRuntime, errors: &E, jobs: u8) -> Result<Ordered, u8> {
+fn read_order<E: Print>(rt: &HostRuntime, errors: &E, jobs: u16) -> Result<Ordered, u8> {
     let line = order_in(rt, errors, jobs)?;
     let template = read_template(rt, errors)?;
     let place = place_of(rt, errors, manifest_in(&line))?;

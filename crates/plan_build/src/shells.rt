@@ -116,6 +116,14 @@ impl<R: Processes + Files + Wait + Clock + Eprint + AllocGlobal> Shells for Buil
         Ok(Printed { status, text })
     }
 
+    fn wait_for_turn(&self) {
+        self.shells.wait_for_turn();
+    }
+
+    fn end_turn(&self) {
+        self.shells.end_turn();
+    }
+
     fn wait_for_label(&self, edge: &[u8]) {
         self.outputs.wait_for_label(edge);
     }

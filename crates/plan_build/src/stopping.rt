@@ -29,7 +29,7 @@ options:
   -C DIR   change to DIR before doing anything else
   -f FILE  specify input build file [default=build.ninja]
 
-  -j N     run N jobs in parallel (0 means 64, the most) [default=";
+  -j N     run N jobs in parallel (0 means 1024, the most) [default=";
 
 const USAGE_AFTER_JOBS: &[u8] = b" on this system]
   -k N     keep going until N jobs fail (0 means infinity) [default=1]
@@ -58,7 +58,7 @@ const WARNINGS: &[u8] = b"warning flags:
 ";
 
 /// Prints a line on what is wrong, and then the options, to standard error.
-fn print_usage<E: Print>(alloc: Global, errors: &E, line: &[u8], jobs: u8) {
+fn print_usage<E: Print>(alloc: Global, errors: &E, line: &[u8], jobs: u16) {
     let digits: Result<String, AllocError> = jobs.to_string(alloc);
     let default = digits_in(&digits);
     complain(
@@ -118,7 +118,7 @@ fn refuse_misuse<E: Print>(
     alloc: Global,
     errors: &E,
     program: &[u8],
-    jobs: u8,
+    jobs: u16,
     argument: &Argument,
 ) {
     let mut line = Vec::new(alloc);
@@ -178,7 +178,7 @@ pub fn stop_at<R: Print + Clock + AllocGlobal, E: Print>(
     rt: &R,
     errors: &E,
     program: &[u8],
-    jobs: u8,
+    jobs: u16,
     argument: &Argument,
 ) -> u8 {
     let alloc = rt.alloc();
@@ -221,8 +221,24 @@ fn idle_value(line: &CommandLine, setting: Setting) -> Option<&[u8]> {
     }
 }
 
-/// Reports on standard error which options have no effect.
+/// Reports on standard error that `-j` allows more commands at once than can run, if it does.
+fn warn_of_jobs<E: Print>(alloc: Global, errors: &E, line: &CommandLine) {
+    let Some(value) = line.value(Setting::Jobs) else {
+        return;
+    };
+    if line.exceeds_jobs() {
+        let begin = b"ninja: warning: -j ".as_slice();
+        complain(
+            alloc,
+            errors,
+            &[begin, value, b": no more than 1024 commands run at once\n"],
+        );
+    }
+}
+
+/// Reports on standard error which options have no effect, or less than they say.
 pub fn warn<E: Print>(alloc: Global, errors: &E, line: &CommandLine) {
+    warn_of_jobs(alloc, errors, line);
     if let Some(mode) = idle_value(line, Setting::Mode) {
         complain(
             alloc,

@@ -139,8 +139,16 @@ pub fn printed_lane_fault(alloc: Global, fault: &LaneFault) -> PlanFault
     }
 }
 
+/// The greatest number of threads that verify an image.
+const MOST_VERIFIERS: u16 = 64;
+
+/// Returns the number of threads that verify an image: as many as commands may run at once, but at most 64.
+fn verifiers_for(jobs: u16) -> u8 {
+    u8::try_from(jobs.min(MOST_VERIFIERS)).unwrap_or(1)
+}
+
 /// Reads the image at a path, and finds the edges that make the targets. Verifies the image with as many threads as
-/// commands may run at once.
+/// commands may run at once, but at most 64.
 fn opened_at<S: Source, R: Threads + Sync>(
     rt: &R,
     alloc: Global,
@@ -154,7 +162,8 @@ fn opened_at<S: Source, R: Threads + Sync>(
         let wanted = defined.wanted build.now.image.now build.now.options (map (λ n. n.now) build.now.targets.now) (option_map (λ t. t.now) build.now.trace) in
         IfErr result (λ fault. IsNotBegun (S.gives source.old) missing wanted fault) }
 {
-    let image = match verified_by(rt, alloc, build.options.jobs(), source, build.image) {
+    let threads = verifiers_for(build.options.jobs());
+    let image = match verified_by(rt, alloc, threads, source, build.image) {
         Ok(image) => image,
         Err(fault) => return Err(fault),
     };

@@ -9,6 +9,7 @@ ghost use Rattle.plan_machine.specs.NeverStuck.{CanGo, is_own};
 ghost use Rattle.plan_machine.specs.Picking.{IsEnabled};
 ghost use Rattle.plan_machine.specs.Requests.{Asks};
 ghost use Rattle.plan_machine.specs.Step.{NotEnabled, step};
+ghost use Rattle.plan_machine.specs.State.{has_ended};
 ghost use Rattle.plan_machine.specs.Total.{total_of};
 ghost use Rattle.plan_machine.specs.Wanted.{any_outside};
 ghost use Rattle.plan_status.specs.Consoles.{is_console};
@@ -387,6 +388,13 @@ impl<'v, W: World> Board<'v, W> {
             Some(_event) => true,
             None => false,
         }
+    }
+
+    /// Checks whether each edge has an outcome.
+    pub fn has_ended(&self) -> bool
+        ensures { result ≡ has_ended self.now.state }
+    {
+        self.state.ended()
     }
 
     /// Checks whether an edge awaits the reply to this question.

@@ -50,9 +50,9 @@ enum BatchEnd {
     NoMemory,
 }
 
-/// Runs an image by as many threads as the options have jobs. Each thread takes questions from one board, asks the
-/// world, and applies its replies. If there are no targets, the run is for the image's defaults. The call may wait for
-/// the world.
+/// Runs an image by as many threads as the options have jobs, or by fewer if no more are needed. Each thread takes
+/// questions from one board, asks the world, and applies its replies. If there are no targets, the run is for the
+/// image's defaults. The call may wait for the world.
 ///
 /// # Errors
 /// As for `Board::open`, without a report. Otherwise the run so far, and why it hasn't ended. Which of these faults
@@ -116,7 +116,7 @@ pub(crate) fn run_named<
 >(
     rt: &R,
     alloc: Global,
-    count: u8,
+    count: u16,
     board: Board<'_, W>,
     line_progress: Option<LineProgress>,
     world: &W,
@@ -130,29 +130,78 @@ pub(crate) fn run_named<
     let shared: Mutex<SharedRun<'_, W, J>> = Mutex::new(SharedRun::new(
         board,
         line_progress,
-        count,
+        count.min(FIRST_LANES),
     ));
-    let moved = Condvar::new();
-    let started = start_lanes(rt, alloc, count, &shared, &moved, world);
+    let signals = Signals::new();
+    let started = start_lanes(rt, alloc, count, &shared, &signals, world);
     let (board, line_progress, stopped) = shared.into_inner().into_parts();
     let stopped = if started { stopped } else { Stopped::NoLane };
     (board.into_report(), stopped, line_progress)
 }
 
-/// Starts lanes, and waits for them. Returns whether at least one started.
+/// The number of lanes that start at once. More start only when those run commands.
+const FIRST_LANES: u16 = 16;
+
+/// What lanes wake each other by.
+#[derive(Drop)]
+struct Signals {
+    /// Notified when lanes that sleep may go on.
+    moved: Condvar,
+    /// Notified when one more lane is needed, and when a lane returns.
+    short: Condvar,
+}
+
+impl Signals {
+    /// Creates signals for which nobody waits.
+    fn new() -> Signals {
+        Signals {
+            moved: Condvar::new(),
+            short: Condvar::new(),
+        }
+    }
+}
+
+/// Waits until one more lane is needed. Returns false if no lane will be needed, because the run has ended or lanes
+/// stop.
+fn wait_until_short<J: RunBrand, W: World, R: Wait>(
+    rt: &R,
+    shared: &Mutex<SharedRun<'_, W, J>>,
+    signals: &Signals,
+) -> bool {
+    let mut guard = shared.lock(rt);
+    for _ in rt.forever() {
+        if guard.is_over() {
+            return false;
+        }
+        if guard.take_shortage() {
+            return true;
+        }
+        guard = signals.short.wait(rt, guard);
+    }
+    false
+}
+
+/// Starts lanes, and waits for them. After the first ones, starts another lane whenever all are busy and one of them
+/// begins a command. Returns whether at least one started.
 fn start_lanes<J: RunBrand + Send + Sync, W: World + Send + Sync, R: Threads + Wait + Sync>(
     rt: &R,
     alloc: Global,
-    count: u8,
+    count: u16,
     shared: &Mutex<SharedRun<'_, W, J>>,
-    moved: &Condvar,
+    signals: &Signals,
     world: &W,
 ) -> bool {
     thread::scope(thread::scope_env(), rt, |scope| {
         let mut started = false;
-        for _ in 0..count {
+        for number in 0..count {
+            if number >= FIRST_LANES && (!started || !wait_until_short(rt, shared, signals)) {
+                break;
+            }
             if scope
-                .spawn(move || lane(rt, alloc, shared, moved, world))
+                .spawn(move || {
+                    lane(rt, alloc, shared, signals, world);
+                    signals.short.notify_all();
+                })
                 .is_ok()
             {
                 started = true;
@@ -167,25 +216,25 @@ fn lane<J: RunBrand, W: World, R: Wait>(
     rt: &R,
     alloc: Global,
     shared: &Mutex<SharedRun<'_, W, J>>,
-    moved: &Condvar,
+    signals: &Signals,
     world: &W,
 ) {
     let Ok(mut batch) = Batch::new(alloc) else {
-        stop(rt, shared, moved);
+        stop(rt, shared, signals);
         return;
     };
     for _ in rt.forever() {
-        match visit(rt, shared, moved, &mut batch, world) {
+        match visit(rt, shared, signals, &mut batch, world) {
             NextTask::Nothing => return,
             NextTask::Asks => {}
             NextTask::Runs(edge, question, permit) => {
-                if !ask_out(rt, shared, moved, &mut batch, world) {
+                if !ask_out(rt, shared, signals, &mut batch, world) {
                     permit.spend();
                     return;
                 }
                 let pending = run(world, edge, question, permit);
                 if !batch.push(pending) {
-                    stop(rt, shared, moved);
+                    stop(rt, shared, signals);
                     return;
                 }
             }
@@ -219,6 +268,25 @@ fn try_then_lock<'a, T, R: Wait>(rt: &R, shared: &'a Mutex<T>) -> MutexGuard<'a,
     shared.lock(rt)
 }
 
+/// Releases the lock, and wakes a lane that sleeps if it can go on. If none sleeps, and the lane that had the lock is
+/// going to run a command, asks for one more lane.
+fn release<J: RunBrand, W: World>(
+    guard: MutexGuard<'_, SharedRun<'_, W, J>>,
+    signals: &Signals,
+    is_leaving: bool,
+) {
+    let mut guard = guard;
+    let has_sleepers = guard.has_sleepers();
+    let is_short = is_leaving && guard.note_shortage();
+    drop(guard);
+    if has_sleepers {
+        signals.moved.notify_one();
+    }
+    if is_short {
+        signals.short.notify_one();
+    }
+}
+
 /// Asks the world questions of the batch, and takes the lock. If another lane has the lock, asks more questions before
 /// it tries again. Waits for the lock only when every question has been asked.
 fn ask_and_lock<'a, 'v, J: RunBrand, W: World, R: Wait>(
@@ -243,7 +311,7 @@ fn ask_and_lock<'a, 'v, J: RunBrand, W: World, R: Wait>(
 fn visit<J: RunBrand, W: World, R: Wait>(
     rt: &R,
     shared: &Mutex<SharedRun<'_, W, J>>,
-    moved: &Condvar,
+    signals: &Signals,
     batch: &mut Batch<W>,
     world: &W,
 ) -> NextTask {
@@ -251,7 +319,7 @@ fn visit<J: RunBrand, W: World, R: Wait>(
     batch.follow(&mut guard);
     for _ in rt.forever() {
         if guard.stopped() != Stopped::No {
-            moved.notify_all();
+            signals.moved.notify_all();
             return NextTask::Nothing;
         }
         let taken = take(rt, &mut guard, batch);
@@ -261,13 +329,13 @@ fn visit<J: RunBrand, W: World, R: Wait>(
             BatchEnd::Run(edge, question, permit) => NextTask::Runs(edge, question, permit),
             BatchEnd::Wait if batch.is_empty() => {
                 guard.add_sleeper();
-                guard = moved.wait(rt, guard);
+                guard = signals.moved.wait(rt, guard);
                 guard.remove_sleeper();
                 continue;
             }
             BatchEnd::Wait => NextTask::Asks,
             BatchEnd::Ended => {
-                moved.notify_all();
+                signals.moved.notify_all();
                 return NextTask::Nothing;
             }
             BatchEnd::NoMemory => {
@@ -275,11 +343,7 @@ fn visit<J: RunBrand, W: World, R: Wait>(
                 continue;
             }
         };
-        let has_sleepers = guard.has_sleepers();
-        drop(guard);
-        if has_sleepers {
-            moved.notify_one();
-        }
+        release(guard, signals, matches!(left, NextTask::Runs(..)));
         batch.drop_applied();
         return left;
     }
@@ -290,7 +354,7 @@ fn visit<J: RunBrand, W: World, R: Wait>(
 fn ask_out<J: RunBrand, W: World, R: Wait>(
     rt: &R,
     shared: &Mutex<SharedRun<'_, W, J>>,
-    moved: &Condvar,
+    signals: &Signals,
     batch: &mut Batch<W>,
     world: &W,
 ) -> bool {
@@ -299,7 +363,7 @@ fn ask_out<J: RunBrand, W: World, R: Wait>(
             return true;
         }
         batch.ask(world);
-        if !apply_replies(rt, shared, moved, batch) {
+        if !apply_replies(rt, shared, signals, batch) {
             return false;
         }
     }
@@ -311,21 +375,17 @@ fn ask_out<J: RunBrand, W: World, R: Wait>(
 fn apply_replies<J: RunBrand, W: World, R: Wait>(
     rt: &R,
     shared: &Mutex<SharedRun<'_, W, J>>,
-    moved: &Condvar,
+    signals: &Signals,
     batch: &mut Batch<W>,
 ) -> bool {
     let mut guard = try_then_lock(rt, shared);
     batch.apply_replies(&mut guard);
     guard.show();
     if guard.stopped() != Stopped::No {
-        moved.notify_all();
+        signals.moved.notify_all();
         return false;
     }
-    let has_sleepers = guard.has_sleepers();
-    drop(guard);
-    if has_sleepers {
-        moved.notify_one();
-    }
+    release(guard, signals, false);
     batch.drop_applied();
     true
 }
@@ -387,8 +447,8 @@ fn run<W: World>(world: &W, edge: u32, question: Question, permit: Permit) -> Ba
 fn stop<J: RunBrand, W: World, R: Wait>(
     rt: &R,
     shared: &Mutex<SharedRun<'_, W, J>>,
-    moved: &Condvar,
+    signals: &Signals,
 ) {
     shared.lock(rt).stop(Stopped::Memory);
-    moved.notify_all();
+    signals.moved.notify_all();
 }

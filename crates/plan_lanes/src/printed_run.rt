@@ -27,7 +27,7 @@ use std::thread::Threads;
 #[derive(Drop)]
 pub struct PrintedRun<'v, W: World> {
     alloc: Global,
-    jobs: u8,
+    jobs: u16,
     board: Board<'v, W>,
     line_progress: LineProgress,
 }

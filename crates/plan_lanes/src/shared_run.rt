@@ -61,7 +61,7 @@ const GREATEST_SHARE: u64 = 64;
 /// Returns the share of a lane, which is the number of edges whose questions it may hold at once: a quarter of an equal
 /// part of the edges that no lane has taken yet, within limits. An edge stays with its lane. Without a share, the first
 /// lanes would take all edges of a small build, and then the others would wait for the slowest one.
-fn share_of(untaken: u64, lanes: u8) -> usize
+fn share_of(untaken: u64, lanes: u16) -> usize
     ensures least { 8 ≤ result }
     ensures greatest { result ≤ 64 }
 {
@@ -77,8 +77,10 @@ pub struct SharedRun<'v, W: World, J: RunBrand> {
     line_progress: Option<LineProgress>,
     stopped: Stopped,
     waiting: u32,
-    /// The number of lanes.
-    lanes: u8,
+    /// The number of lanes that start at once.
+    lanes: u16,
+    /// Whether one more lane is needed.
+    is_short: bool,
     /// The number of wanted commands, less the number of questions that lanes took with `advance`.
     untaken: u64,
     name: PhantomData<J>,
@@ -95,11 +97,11 @@ impl<'v, W: World, J: RunBrand> Model for SharedRun<'v, W, J> {
 }
 
 impl<'v, W: World, J: RunBrand> SharedRun<'v, W, J> {
-    /// Creates the shared state of this many lanes from this board. No lane sleeps yet.
+    /// Creates the shared state of a run from this board, for this many lanes that start at once. No lane sleeps yet.
     pub fn new(
         board: Board<'v, W>,
         line_progress: Option<LineProgress>,
-        lanes: u8,
+        lanes: u16,
     ) -> SharedRun<'v, W, J>
         requires { IsSharedRun J.run J.feed board line_progress }
     {
@@ -110,6 +112,7 @@ impl<'v, W: World, J: RunBrand> SharedRun<'v, W, J> {
             stopped: Stopped::No,
             waiting: 0,
             lanes,
+            is_short: false,
             untaken,
             name: PhantomData,
         }
@@ -294,5 +297,30 @@ impl<'v, W: World, J: RunBrand> SharedRun<'v, W, J> {
     /// Checks whether a lane sleeps although an event can be applied without a reply.
     pub fn has_sleepers(&self) -> bool {
         self.waiting > 0 && self.board.can_advance()
+    }
+
+    /// Notes that one more lane is needed, if no lane sleeps although an event can be applied without a reply. Returns
+    /// whether one is needed.
+    pub fn note_shortage(&mut self) -> bool
+        ensures { self.new ≡ self.old }
+    {
+        if self.waiting == 0 && self.board.can_advance() {
+            self.is_short = true;
+        }
+        self.is_short
+    }
+
+    /// Returns whether one more lane is needed, and forgets it.
+    pub fn take_shortage(&mut self) -> bool
+        ensures { self.new ≡ self.old }
+    {
+        let is_short = self.is_short;
+        self.is_short = false;
+        is_short
+    }
+
+    /// Checks whether lanes have nothing more to do: the run has ended, or they stop.
+    pub fn is_over(&self) -> bool {
+        self.stopped != Stopped::No || self.board.has_ended()
     }
 }

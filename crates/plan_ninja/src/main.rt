@@ -170,7 +170,7 @@ fn run_image<
     let alloc = rt.alloc();
     let file = NewFile::new(rt, asked.trace.unwrap_or(""));
     let (Some(options), Ok(targets), Ok(room)) = (
-        Options::new(asked.jobs, asked.keep),
+        Options::new(u16::from(asked.jobs), asked.keep),
         names_of(alloc, &asked.targets),
         Vec::with_capacity(alloc, OUTPUT_BUFFER),
     ) else {

@@ -11,7 +11,7 @@ use Rattle.plan_options.specs.declared.integer.Integer.TheVariants.{Negative, At
 use Rattle.plan_options.specs.Integers.{integer_in}
 use Rattle.plan_options.specs.Reading.{reading}
 use Rattle.plan_options.specs.Stops.{stop_of_load, stop_of_mode}
-use Rattle.plan_options.specs.Saying.{failures, first_stop, is_dry_run, jobs, targets, verbosity}
+use Rattle.plan_options.specs.Saying.{exceeds_jobs, failures, first_stop, is_dry_run, jobs, targets, verbosity}
 use Rattle.plan_options.specs.ToolWords.{operands, option_letters}
 
 -- `-vj3 a -f x b`
@@ -115,8 +115,20 @@ first_stop_counts : first_stop (reading (codes "-j" ∷ codes "x" ∷ codes "--v
 first_stop_counts = refl
 
 -- `-j 0`
-as_many_as_can_be : jobs (reading (codes "-j" ∷ codes "0" ∷ [])) ≡ Some 64
+as_many_as_can_be : jobs (reading (codes "-j" ∷ codes "0" ∷ [])) ≡ Some 1024
 as_many_as_can_be = refl
+
+-- `-j 0`: as many as can be are fewer than any number.
+any_number_exceeds : exceeds_jobs (reading (codes "-j" ∷ codes "0" ∷ [])) ≡ true
+any_number_exceeds = refl
+
+-- `-j 1024`
+greatest_jobs_allowed : exceeds_jobs (reading (codes "-j" ∷ codes "1024" ∷ [])) ≡ false
+greatest_jobs_allowed = refl
+
+-- `-j1025`
+one_job_too_many : exceeds_jobs (reading (codes "-j1025" ∷ [])) ≡ true
+one_job_too_many = refl
 
 dry_run_among_letters : is_dry_run (reading (codes "a" ∷ codes "-vn" ∷ [])) ≡ true
 dry_run_among_letters = refl

@@ -1,5 +1,5 @@
 -- The meaning of all arguments of a command line together. If an option comes more than once, the last one counts.
-use Rattle.std.specs.Prelude.{ℕ, zero, suc, ◌==◌, Bool, true, false, List, [], ◌∷◌, Option, Some, None, bytes_eq, codes, filter_map, find, is_some, option_and_then, if◌then◌else◌}
+use Rattle.std.specs.Prelude.{ℕ, zero, suc, ◌==◌, nat_lt, Bool, true, false, ◌||◌, List, [], ◌∷◌, Option, Some, None, bytes_eq, codes, filter_map, find, is_some, option_and_then, if◌then◌else◌}
 use Rattle.std.specs.List.{list_any}
 use Rattle.plan_options.specs.declared.argument.Flag.{Flag}
 use Rattle.plan_options.specs.declared.argument.Flag.TheVariants as flag
@@ -82,15 +82,28 @@ tool_word_of other = None
 abbrev pub tool_words : List Argument → List Text
 tool_words arguments = filter_map tool_word_of arguments
 
--- The number of commands that a number of `-j` allows at once. 0 allows 64.
+-- The number of commands that a number of `-j` allows at once. 0 allows 1,024.
 abbrev pub jobs_of : Option Integer → Option ℕ
-jobs_of (Some (AtLeastZero zero)) = Some 64
+jobs_of (Some (AtLeastZero zero)) = Some 1024
 jobs_of (Some (AtLeastZero (suc n))) = Some (suc n)
 jobs_of other = None
 
--- The number of commands that may run at once, at most 64, if `-j` gives it.
+-- The number of commands that may run at once, at most 1,024, if `-j` gives it.
 abbrev pub jobs : List Argument → Option ℕ
-jobs arguments = option_and_then (λ value. jobs_of (integer_in 64 value)) (last_value setting.Jobs arguments)
+jobs arguments = option_and_then (λ value. jobs_of (integer_in 1024 value)) (last_value setting.Jobs arguments)
+
+-- A number of `-j` allows more than 1,024 commands at once. 0 allows any number.
+abbrev pub exceeds : Option Integer → Bool
+exceeds (Some (AtLeastZero n)) = n == 0 || nat_lt 1024 n
+exceeds other = false
+
+abbrev pub exceeds_if_any : Option Text → Bool
+exceeds_if_any (Some value) = exceeds (integer_in 1025 value)
+exceeds_if_any None = false
+
+-- `-j` allows more commands at once than can run.
+abbrev pub exceeds_jobs : List Argument → Bool
+exceeds_jobs arguments = exceeds_if_any (last_value setting.Jobs arguments)
 
 -- The number of failures that a number of `-k` allows. 0 and negative numbers mean any number, written as 0.
 abbrev pub failures_of : Option Integer → ℕ

@@ -29,17 +29,27 @@ impl Model for CommandLine {
 }
 
 /// The greatest number of commands that may run at once.
-const MOST_JOBS: u32 = 64;
+const MOST_JOBS: u32 = 1024;
 
-/// Returns the number of commands that a value of `-j` allows at once, at most 64. The value 0 allows 64. Returns
+/// Returns the number of commands that a value of `-j` allows at once, at most 1,024. The value 0 allows 1,024. Returns
 /// `None` if the value isn't a number from 0 on.
-fn jobs_of(value: &[u8]) -> Option<u8>
-    ensures { result ≡ defined.jobs_of (integer_in 64 value.now) }
+fn jobs_of(value: &[u8]) -> Option<u16>
+    ensures { result ≡ defined.jobs_of (integer_in 1024 value.now) }
 {
     match integer_in(value, MOST_JOBS) {
-        Some(Integer::AtLeastZero(0)) => Some(MOST_JOBS as u8),
-        Some(Integer::AtLeastZero(number)) => Some(number as u8),
+        Some(Integer::AtLeastZero(0)) => Some(MOST_JOBS as u16),
+        Some(Integer::AtLeastZero(number)) => Some(number as u16),
         _ => None,
+    }
+}
+
+/// Checks whether a value of `-j` allows more than 1,024 commands at once, as 0 does.
+fn exceeds(value: &[u8]) -> bool
+    ensures { result ≡ defined.exceeds (integer_in 1025 value.now) }
+{
+    match integer_in(value, MOST_JOBS + 1) {
+        Some(Integer::AtLeastZero(number)) => number == 0 || number > MOST_JOBS,
+        _ => false,
     }
 }
 
@@ -244,13 +254,23 @@ impl CommandLine {
         has_dry(self.arguments())
     }
 
-    /// Returns the number of commands that may run at once, 1 to 64. Returns `None` if no `-j` gives it.
-    pub fn jobs(&self) -> Option<u8>
+    /// Returns the number of commands that may run at once, 1 to 1,024. Returns `None` if no `-j` gives it.
+    pub fn jobs(&self) -> Option<u16>
         ensures { result ≡ defined.jobs self.now }
     {
         match self.value(Setting::Jobs) {
             Some(value) => jobs_of(value),
             None => None,
+        }
+    }
+
+    /// Checks whether `-j` allows more commands at once than can run: more than 1,024, or any number.
+    pub fn exceeds_jobs(&self) -> bool
+        ensures { result ≡ defined.exceeds_jobs self.now }
+    {
+        match self.value(Setting::Jobs) {
+            Some(value) => exceeds(value),
+            None => false,
         }
     }
 

@@ -2,6 +2,7 @@
 
 use crate::outcome::value_of;
 use plan_options::*;
+use std::alloc::Global;
 use std::test::Fail;
 
 /// Checks whether two lists have the same texts in the same order.
@@ -27,9 +28,28 @@ fn line_with_options(rt: HostRuntime) -> Result<(), Fail> {
     assert!(rt; line.value(Setting::Manifest).is_none());
     assert!(rt; line.verbosity() == Some(Flag::Quiet));
     assert_eq!(rt; line.jobs(), Some(3));
+    assert!(rt; !line.exceeds_jobs());
     assert_eq!(rt; line.failures(), 0);
     assert!(rt; are_texts(&value_of(line.targets(rt.alloc()))?, &[b"a", b"b"]));
     Ok(())
+}
+
+/// Returns the number of commands at once that words allow, and whether they allow more than can run.
+fn jobs_of(alloc: Global, words: &[&[u8]]) -> (Option<u16>, bool) {
+    match CommandLine::read(alloc, words) {
+        Ok(line) => (line.jobs(), line.exceeds_jobs()),
+        Err(_) => (None, true),
+    }
+}
+
+#[test]
+fn jobs_are_at_most_1024(rt: HostRuntime) {
+    assert!(rt; jobs_of(rt.alloc(), &[b"-j65"]) == (Some(65), false));
+    assert!(rt; jobs_of(rt.alloc(), &[b"-j1024"]) == (Some(1024), false));
+    assert!(rt; jobs_of(rt.alloc(), &[b"-j1025"]) == (Some(1024), true));
+    assert!(rt; jobs_of(rt.alloc(), &[b"-j0"]) == (Some(1024), true));
+    assert!(rt; jobs_of(rt.alloc(), &[b"-j0", b"-j7"]) == (Some(7), false));
+    assert!(rt; jobs_of(rt.alloc(), &[b"a"]) == (None, false));
 }
 
 #[test]

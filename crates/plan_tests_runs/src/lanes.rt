@@ -372,7 +372,7 @@ fn came_out<W: World + Send + Sync, R: Threads + Wait + Sync>(
     rt: &R,
     alloc: Global,
     image: &Verified,
-    jobs: u8,
+    jobs: u16,
     world: &W,
 ) -> Result<(u8, usize, usize), Refused> {
     let Some(options) = Options::new(jobs, 0) else {
@@ -390,7 +390,7 @@ fn gated<R: Threads + Wait + Sync, C: Clock + Send + Sync + Drop>(
     rt: &R,
     alloc: Global,
     clock: C,
-    n: u8,
+    n: u16,
     looks: u32,
 ) -> Result<(u8, usize, usize), Refused> {
     let gate = Gate {
@@ -405,7 +405,7 @@ fn gated<R: Threads + Wait + Sync, C: Clock + Send + Sync + Drop>(
 /// If the jobs limit is n, n commands run at the same time: each command waits until all others have begun.
 #[test]
 fn all_at_once(rt: HostRuntime) -> Result<(), Fail> {
-    for n in [2u8, 8, 64] {
+    for n in [2u16, 8, 64, 150] {
         for looks in [0u32, 3] {
             let events = (7 + 3 * looks as usize) * usize::from(n);
             assert!(rt;
@@ -457,7 +457,7 @@ fn asks_once<R: Threads + Wait + Sync + Abort>(
     image: &Verified,
     looks: u32,
 ) {
-    for jobs in [1u8, 4, 64] {
+    for jobs in [1u16, 4, 64] {
         let world = Counted::new(u64::MAX, false);
         let events = (7 + 3 * looks as usize) * 300;
         let found = came_out(rt, alloc, image, jobs, &world);
@@ -519,7 +519,7 @@ fn same_verdict_by_threads(rt: HostRuntime) -> Result<(), Fail> {
 
 /// Runs an image in worlds that are out of memory after some calls, and checks that the fault is 120.
 fn runs_out<R: Threads + Wait + Sync + Abort>(rt: &R, alloc: Global, image: &Verified) {
-    for jobs in [1u8, 4, 64] {
+    for jobs in [1u16, 4, 64] {
         for most in [0u64, 1, 2, 50, 299] {
             let world = Counted::new(most, false);
             match came_out(rt, alloc, image, jobs, &world) {
@@ -543,7 +543,7 @@ fn memory_runs_out(rt: HostRuntime) -> Result<(), Fail> {
 
 /// Runs an image in a world whose replies don't fit, and checks that the fault is 110 and no edge runs.
 fn does_not_fit<R: Threads + Wait + Sync + Abort>(rt: &R, alloc: Global, image: &Verified) {
-    for jobs in [1u8, 4, 64] {
+    for jobs in [1u16, 4, 64] {
         let world = Counted::new(u64::MAX, true);
         match came_out(rt, alloc, image, jobs, &world) {
             Ok((number, _, well)) => assert_eq!(rt; (number, well), (110, 0)),

@@ -258,7 +258,7 @@ fn pick_all(state: &mut State, image: &Verified) -> Result<usize, Refused>
 ///
 /// # Errors
 /// Those of `State::open` and `pick_all`.
-fn picked(alloc: Global, image: &Verified, jobs: u8) -> Result<(usize, usize, u64), Refused> {
+fn picked(alloc: Global, image: &Verified, jobs: u16) -> Result<(usize, usize, u64), Refused> {
     let Some(options) = Options::new(jobs, 0) else {
         return Err(Refused::Memory);
     };
@@ -389,7 +389,7 @@ fn sizes(rt: HostRuntime) {
 }
 
 /// Returns the jobs and the limit of failures that options keep, or `None` if the options are refused.
-fn kept(jobs: u8, keep: u32) -> Option<(u8, u32)> {
+fn kept(jobs: u16, keep: u32) -> Option<(u16, u32)> {
     match Options::new(jobs, keep) {
         Some(options) => Some((options.jobs(), options.keep())),
         None => None,
@@ -400,8 +400,9 @@ fn kept(jobs: u8, keep: u32) -> Option<(u8, u32)> {
 fn options_have_some_jobs(rt: HostRuntime) {
     assert_eq!(rt; kept(0, 1), None);
     assert_eq!(rt; kept(1, 7), Some((1, 7)));
-    assert_eq!(rt; kept(64, 0), Some((64, 0)));
-    assert_eq!(rt; kept(65, 1), None);
+    assert_eq!(rt; kept(65, 1), Some((65, 1)));
+    assert_eq!(rt; kept(1024, 0), Some((1024, 0)));
+    assert_eq!(rt; kept(1025, 1), None);
 }
 
 /// Opens a run for these targets. Returns the outcomes of edges 0 to 3, and whether the run has ended.

@@ -5,3 +5,4 @@ pub mod EventsLemmas
 pub mod WritingLemmas
 pub mod SpellingLaw
 pub mod ReadAgain
+pub mod OptionsLemmas

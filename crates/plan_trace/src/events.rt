@@ -127,12 +127,26 @@ pub(crate) fn target_in(alloc: Global, line: &[u8]) -> Result<Option<u32>, Alloc
     Ok(target_of(&words))
 }
 
-/// Returns the options with these two numbers.
+/// The greatest number of jobs in a trace.
+const MOST_JOBS: u64 = 64;
+
+/// Returns options with these two numbers. Returns None if a trace can't have as many jobs.
+#[tactic(auto, using(crate::proofs::OptionsLemmas::within, crate::proofs::OptionsLemmas::beyond))]
+fn options_with(jobs: u64, keep: u32) -> Option<Options>
+    ensures { result ≡ defined.options_by (Some jobs) (Some keep) }
+{
+    if jobs > MOST_JOBS {
+        return None;
+    }
+    Options::new(jobs as u16, keep)
+}
+
+/// Returns the options in these two words.
 fn options_by(jobs: &[u8], keep: &[u8]) -> Option<Options>
     ensures { result ≡ defined.options_by (words.number_of 255 jobs.now) (words.number_of 4294967295 keep.now) }
 {
     match (number_of(jobs, 255), short_number_of(keep)) {
-        (Some(jobs), Some(keep)) => Options::new(jobs as u8, keep),
+        (Some(jobs), Some(keep)) => options_with(jobs, keep),
         _ => None,
     }
 }

@@ -29,6 +29,7 @@ mod record_sink;
 mod replacing;
 mod restating;
 mod rewriting;
+mod running_shells;
 mod shell;
 mod stamp;
 mod taking_over;

@@ -11,11 +11,12 @@ use crate::builder_lock::{BuilderLock, SharedFile, VARIABLE};
 use crate::fault::DeviceFault;
 use crate::reasons::say;
 use crate::record_file::StartRecorded;
+use crate::running_shells::RunningShells;
 use plan_machine::Reply;
 use plan_output::shown_output;
 use plan_text::RowList;
 use std::alloc::{AllocError, Global};
-use std::io::{self, ErrorKind, Read, Write};
+use std::io::{self, ErrorKind, PipeReader, Read, Write};
 use std::path::Path;
 use std::process::{Child, Command, ExitStatus, OpenProcess, Processes};
 use std::rt::Files;
@@ -181,6 +182,40 @@ fn shell_with<F: SharedFile>(
     Ok(shell)
 }
 
+/// Runs a command by a shell whose standard input is the file of the lock, and shows its output.
+fn run_with<R: Print + Wait + AllocGlobal, S: Shells, F: SharedFile>(
+    rt: &R,
+    screen: &Mutex<()>,
+    shells: &S,
+    text: &str,
+    records: &str,
+    lock: &BuilderLock<F>,
+    edge: &[u8],
+) -> Result<Option<i32>, DeviceFault>
+    ensures { IfOk result (λ code. HasRun S.ended text.now code) }
+{
+    let shell = shell_with(rt.alloc(), text, records, lock)?;
+    run_aside(rt, screen, shells, shell, edge)
+}
+
+/// Runs a command like `run_with`, when one more shell may run.
+fn run_in_turn<R: Print + Wait + AllocGlobal, S: Shells, F: SharedFile>(
+    rt: &R,
+    screen: &Mutex<()>,
+    shells: &S,
+    text: &str,
+    records: &str,
+    lock: &BuilderLock<F>,
+    edge: &[u8],
+) -> Result<Option<i32>, DeviceFault>
+    ensures { IfOk result (λ code. HasRun S.ended text.now code) }
+{
+    shells.wait_for_turn();
+    let ended = run_with(rt, screen, shells, text, records, lock, edge);
+    shells.end_turn();
+    ended
+}
+
 /// Runs a command by a shell, on the terminal if it is a console command.
 fn run_text<R: Print + Wait + AllocGlobal, S: Shells, F: SharedFile>(
     rt: &R,
@@ -198,8 +233,7 @@ fn run_text<R: Print + Wait + AllocGlobal, S: Shells, F: SharedFile>(
         let shell = shell_of(rt.alloc(), text, records)?;
         return run_on_terminal(rt, screen, shells, shell, edge);
     }
-    let shell = shell_with(rt.alloc(), text, records, lock)?;
-    run_aside(rt, screen, shells, shell, edge)
+    run_in_turn(rt, screen, shells, text, records, lock, edge)
 }
 
 /// Runs the command of an edge whose start entry is in the record. A console command runs on the terminal. The standard
@@ -264,6 +298,12 @@ pub trait Shells {
     /// isn't locked.
     fn explain(&self, _edge: &[u8], _reason: &[u8]) {}
 
+    /// Waits until one more shell may run, before a call of `output`.
+    fn wait_for_turn(&self) {}
+
+    /// Notes that the shell that waited for its turn has ended, or can't be started.
+    fn end_turn(&self) {}
+
     /// Waits until the label of an edge whose command gets the terminal is shown, or until it can no longer be
     /// expected. `edge` is the first output of the edge. The screen isn't locked.
     fn wait_for_label(&self, edge: &[u8]);
@@ -281,12 +321,16 @@ pub trait Shells {
 #[derive(Drop)]
 pub struct SystemShells<R> {
     rt: R,
+    running: RunningShells,
 }
 
 impl<R> SystemShells<R> {
     /// Returns the shells of a runtime.
     pub fn new(rt: R) -> SystemShells<R> {
-        SystemShells { rt }
+        SystemShells {
+            rt,
+            running: RunningShells::new(),
+        }
     }
 
     /// Borrows the runtime.
@@ -312,21 +356,50 @@ fn read_until_end<P: OpenProcess, R: Read>(
     }
 }
 
-impl<R: Processes + Files> Shells for SystemShells<R> {
+/// Starts a shell whose standard output and standard error are one pipe, so that bytes which are written to both stay
+/// in their order. Returns the reading end of the pipe, too. This program's writing ends are closed then, so reading
+/// ends when the command has.
+fn started<R: Processes + Files>(
+    rt: &R,
+    shell: Command,
+) -> io::Result<(Child<R::Started>, PipeReader)> {
+    let mut shell = shell;
+    let (reader, writer) = io::pipe(rt)?;
+    shell.stdout(writer.try_clone()?);
+    shell.stderr(writer);
+    let child = shell.spawn(rt)?;
+    Ok((child, reader))
+}
+
+/// Returns what a shell prints to a pipe, and its exit status, when it has ended.
+fn printed_by<P: OpenProcess + Drop>(
+    alloc: Global,
+    child: Child<P>,
+    reader: PipeReader,
+) -> io::Result<Printed> {
+    let (mut child, mut reader) = (child, reader);
+    let mut text = Vec::new(alloc);
+    let status = read_until_end(&mut child, &mut reader, &mut text)?;
+    Ok(Printed { status, text })
+}
+
+impl<R: Processes + Files + Wait + Eprint + AllocGlobal> Shells for SystemShells<R> {
     ghost ended = { λ _ _. Unit {0} };
 
-    /// Standard output and standard error are one pipe, so bytes that are written to both stay in their order.
     fn output(&self, shell: Command, _edge: &[u8]) -> io::Result<Printed> {
-        let mut shell = shell;
-        let mut text = Vec::new(*shell.allocator());
-        let (mut reader, writer) = io::pipe(&self.rt)?;
-        shell.stdout(writer.try_clone()?);
-        shell.stderr(writer);
-        let mut child = shell.spawn(&self.rt)?;
-        // Closes this program's writing ends of the pipe, so that reading ends when the command has.
-        drop(shell);
-        let status = read_until_end(&mut child, &mut reader, &mut text)?;
-        Ok(Printed { status, text })
+        self.running.begin_start(&self.rt);
+        let started = started(&self.rt, shell);
+        self.running.end_start(&self.rt);
+        let (child, reader) = started?;
+        printed_by(self.rt.alloc(), child, reader)
+    }
+
+    fn wait_for_turn(&self) {
+        self.running.begin(&self.rt);
+    }
+
+    fn end_turn(&self) {
+        self.running.end(&self.rt);
     }
 
     /// Returns at once, since labels come after commands.

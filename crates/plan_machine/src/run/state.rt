@@ -329,10 +329,10 @@ impl State {
     }
 }
 
-/// The most edges that may hold a job token at once (1 to 64), and the failure limit (0 means no limit).
+/// The most edges that may hold a job token at once (1 to 1,024), and the failure limit (0 means no limit).
 #[derive(Clone, Copy)]
 pub struct Options {
-    jobs: u8,
+    jobs: u16,
     keep: u32,
 }
 
@@ -346,15 +346,15 @@ impl Model for Options {
 
     ghost inverse = { λ l. record { jobs = l.jobs; keep = l.keep } };
 
-    ghost invariant = { λ o. (0 < o.jobs) × (o.jobs ≤ 64) };
+    ghost invariant = { λ o. (0 < o.jobs) × (o.jobs ≤ 1024) };
 }
 
 impl Options {
-    /// Creates options. Returns None if `jobs` isn't 1 to 64. This limit is the project's own choice.
-    pub fn new(jobs: u8, keep: u32) -> Option<Options>
-        ensures { result ≡ (if nat_lt 0 jobs && nat_le jobs 64 then Some (record { jobs = jobs; keep = keep }) else None) }
+    /// Creates options. Returns None if `jobs` isn't 1 to 1,024. This limit is the project's own choice.
+    pub fn new(jobs: u16, keep: u32) -> Option<Options>
+        ensures { result ≡ (if nat_lt 0 jobs && nat_le jobs 1024 then Some (record { jobs = jobs; keep = keep }) else None) }
     {
-        if jobs > 0 && jobs <= 64 {
+        if jobs > 0 && jobs <= 1024 {
             Some(Options { jobs, keep })
         } else {
             None
@@ -362,10 +362,10 @@ impl Options {
     }
 
     /// Returns the most edges that may hold a job token at once.
-    pub fn jobs(&self) -> u8
+    pub fn jobs(&self) -> u16
         ensures same { result ≡ self.now.jobs }
         ensures some { 0 < result }
-        ensures few { result ≤ 64 }
+        ensures few { result ≤ 1024 }
     {
         self.jobs
     }

@@ -145,7 +145,7 @@ fn ran<R: Threads + Wait + Sync>(
     rt: &R,
     alloc: Global,
     image: &Verified,
-    jobs: u8,
+    jobs: u16,
     world: &Failing,
 ) -> Option<Report> {
     let Some(options) = Options::new(jobs, 0) else {
@@ -208,7 +208,7 @@ fn fails_once<R: Threads + Wait + Sync + Abort>(
     rt: &R,
     alloc: Global,
     image: &Verified,
-    jobs: u8,
+    jobs: u16,
     failing: u64,
 ) {
     let world = Failing {
@@ -228,7 +228,7 @@ fn fails_once<R: Threads + Wait + Sync + Abort>(
 
 /// Checks runs of the chain in which each of the eight calls fails, and then none.
 fn fails_each<R: Threads + Wait + Sync + Abort>(rt: &R, alloc: Global, image: &Verified) {
-    for jobs in [1u8, 4] {
+    for jobs in [1u16, 4] {
         for failing in 0..10u64 {
             fails_once(rt, alloc, image, jobs, failing);
         }

@@ -251,7 +251,7 @@ fn ran<R: Threads + Wait + Sync, W: World + Send + Sync>(
     rt: &R,
     alloc: Global,
     edges: u32,
-    jobs: u8,
+    jobs: u16,
     world: &W,
 ) -> Result<Report, Refused> {
     let Some(options) = Options::new(jobs, 0) else {
@@ -285,7 +285,7 @@ const COUNTS: [usize; 9] = [1, 2, 3, 63, 64, 65, 66, 128, 200];
 fn swept<R: Threads + Wait + Sync>(
     rt: &R,
     alloc: Global,
-    jobs: u8,
+    jobs: u16,
     world: &Files,
 ) -> Result<Option<usize>, Refused> {
     let report = ran(rt, alloc, 30, jobs, world)?;
@@ -302,7 +302,7 @@ fn sweeps_once<R: Threads + Wait + Sync>(
     alloc: Global,
     paths: usize,
     ahead: Ahead,
-    jobs: u8,
+    jobs: u16,
 ) -> Result<(Option<usize>, bool), Refused> {
     let world = Files::new(alloc, paths, ahead, usize::MAX)?;
     let events = swept(rt, alloc, jobs, &world)?;
@@ -314,7 +314,7 @@ fn sweeps_once<R: Threads + Wait + Sync>(
 fn each_path_of_each_edge(rt: HostRuntime) -> Result<(), Fail> {
     for ahead in [Ahead::None, Ahead::All, Ahead::Most] {
         for paths in COUNTS {
-            for jobs in [1u8, 4] {
+            for jobs in [1u16, 4] {
                 let found = sweeps_once(&rt, rt.alloc(), paths, ahead, jobs);
                 assert!(rt; found == Ok((Some((2 * paths + 11) * 30), true)));
             }

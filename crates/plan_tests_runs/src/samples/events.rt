@@ -82,8 +82,8 @@ pub type Left = Result<(usize, Option<Mark>, bool), (usize, Refused)>;
 /// number reaches `keep`, and 0 means no limit.
 ///
 /// # Errors
-/// Those of `replay`, and `Memory` at place 0 if `jobs` isn't 1 to 64.
-pub fn left_by(alloc: Global, image: &Verified, jobs: u8, keep: u32, events: &[Event]) -> Left {
+/// Those of `replay`, and `Memory` at place 0 if `jobs` isn't 1 to 1,024.
+pub fn left_by(alloc: Global, image: &Verified, jobs: u16, keep: u32, events: &[Event]) -> Left {
     let Some(options) = Options::new(jobs, keep) else {
         return Err((0, Refused::Memory));
     };
@@ -97,7 +97,7 @@ pub fn left_by(alloc: Global, image: &Verified, jobs: u8, keep: u32, events: &[E
 ///
 /// # Errors
 /// Those of `left_by`, and `Memory` at place 0 if the events can't be converted.
-pub fn ran(alloc: Global, image: &Verified, jobs: u8, keep: u32, plain: &[Plain]) -> Left {
+pub fn ran(alloc: Global, image: &Verified, jobs: u16, keep: u32, plain: &[Plain]) -> Left {
     match events_of(alloc, plain) {
         Ok(events) => left_by(alloc, image, jobs, keep, &events),
         Err(_) => Err((0, Refused::Memory)),

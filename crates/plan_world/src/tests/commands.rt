@@ -2,6 +2,8 @@
 
 use super::*;
 use crate::Printed;
+use crate::fault::DeviceFault;
+use crate::running_shells::open_files_in;
 use std::io::{self, ErrorKind};
 use std::process::{Command, ExitStatus};
 
@@ -140,5 +142,43 @@ fn both_streams_in_order(rt: HostRuntime) -> Result<(), Fail> {
     let Printed { status, text } = shells.output(shell, b"out")?;
     assert_eq!(rt; status.code(), Some(7));
     assert_eq!(rt; text.as_slice(), b"a\nb\nc\nd\n".as_slice());
+    Ok(())
+}
+
+/// Checks that the limit of open files is found in the text of /proc/self/limits.
+#[test]
+fn limit_of_open_files(rt: HostRuntime) {
+    let lines =
+        b"Limit          Soft Limit   Hard Limit   Units     \nMax open files 1024  4096  files     \nMax 7\n";
+    assert_eq!(rt; open_files_in(lines), Some(1024));
+    assert_eq!(rt;
+        open_files_in(b"Max open files      unlimited      unlimited      files\n"),
+        None
+    );
+    assert_eq!(rt;
+        open_files_in(b"Max processes       5              6              processes\n"),
+        None
+    );
+    assert_eq!(rt; open_files_in(b"Max open files"), None);
+}
+
+/// Checks that reasons of the system are in the words of the C library, and others in those of their kind.
+#[test]
+fn reasons_in_words(rt: HostRuntime) -> Result<(), Fail> {
+    for (number, words) in [
+        (24i32, "Too many open files (os error 24)"),
+        (28, "No space left on device (os error 28)"),
+        (11, "Resource temporarily unavailable (os error 11)"),
+    ] {
+        let fault = DeviceFault::from(io::Error::from_raw_os_error(number));
+        assert_eq!(rt; format!(in rt.alloc(); "{fault}")?.as_str(), words);
+    }
+    let fault = DeviceFault::System(ErrorKind::PermissionDenied, 0);
+    assert_eq!(rt;
+        format!(in rt.alloc(); "{fault}")?.as_str(),
+        "permission denied"
+    );
+    let fault = DeviceFault::from(io::Error::from_raw_os_error(12));
+    assert!(rt; fault == DeviceFault::Memory);
     Ok(())
 }
