@@ -1,7 +1,10 @@
 -- The output of a command as it is shown: the states of a terminal that reads it (ECMA-48), and the text that is left.
-use Rattle.std.specs.Prelude.{ℕ, Bool, true, false, ◌==◌, ◌&&◌, ◌||◌, not, List, [], ◌∷◌, ◌++◌, nat_lt, if◌then◌else◌, Option, Some, None, length, slice_get, ◌-◌}
+use Rattle.std.specs.Prelude.{ℕ, Bool, false, ◌==◌, ◌&&◌, ◌||◌, not, List, [], ◌∷◌, ◌++◌, nat_lt, if◌then◌else◌, Option, Some, None, length, slice_get, ◌-◌}
 use Rattle.plan_output.specs.declared.escapes.Reading.{Reading}
 use Rattle.plan_output.specs.declared.escapes.Reading.TheVariants.{Text, Escape, ControlSequence, ControlString}
+
+abbrev pub is_escape : ℕ → Bool
+is_escape b = b == 27
 
 -- Which byte after `ESC` opens what: `[` a control sequence; `]`, `P`, `X`, `^` and `_` a control string; a byte below
 -- `0` more of the same; any other ends the sequence.

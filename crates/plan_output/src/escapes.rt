@@ -1,6 +1,7 @@
 //! Escape sequences, by which programs tell a terminal to use colours, to move its cursor or to show a link.
 
 ghost use Rattle.std.specs.Prelude.{◌≡◌, IfOk};
+ghost use Rattle.std.specs.List.{list_any};
 ghost use Rattle.plan_output.specs.Escapes as defined;
 
 use std::alloc::{AllocError, Global};
@@ -85,6 +86,24 @@ fn without_escapes(alloc: Global, text: &[u8]) -> Result<Vec<u8>, AllocError>
     Ok(plain)
 }
 
+/// Checks whether a text has the byte with which each escape sequence begins.
+fn has_escape(text: &[u8]) -> bool
+    ensures { result ≡ list_any defined.is_escape text.now }
+{
+    text.iter().any(|b| *b == 27)
+}
+
+/// Returns a text without its escape sequences. A text that has none isn't copied.
+#[tactic(auto, using(crate::proofs::EscapesLemmas::plain_stays))]
+fn plain_text(alloc: Global, text: Vec<u8>) -> Result<Vec<u8>, AllocError>
+    ensures { IfOk result (λ plain. plain.items ≡ defined.without_escapes text.items) }
+{
+    if has_escape(&text) {
+        return without_escapes(alloc, &text);
+    }
+    Ok(text)
+}
+
 /// Checks whether the last line of a text has no line feed.
 fn lacks_line_end(text: &[u8]) -> bool
     ensures { result ≡ defined.lacks_line_end text.now }
@@ -118,6 +137,6 @@ pub fn shown_output(alloc: Global, text: Vec<u8>, escapes: bool) -> Result<Vec<u
     if escapes {
         return with_line_end(text);
     }
-    let plain = without_escapes(alloc, &text)?;
+    let plain = plain_text(alloc, text)?;
     with_line_end(plain)
 }

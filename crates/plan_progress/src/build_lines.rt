@@ -105,13 +105,13 @@ fn elapsed_with<O: Stopwatch>(outputs: &O, mark: Mark) -> u64
     }
 }
 
-/// Returns the bytes of an output. Empty if there is none.
-fn bytes_of(output: &Option<Vec<u8>>) -> &[u8]
-    ensures { result.now ≡ or_empty (option_map (λ text. text.items) output.now) }
+/// Returns an output. Empty if there is none.
+fn output_or_empty(alloc: Global, output: Option<Vec<u8>>) -> Vec<u8>
+    ensures { result.items ≡ or_empty (option_map (λ text. text.items) output) }
 {
     match output {
-        Some(output) => output.as_slice(),
-        None => &[],
+        Some(output) => output,
+        None => Vec::new(alloc),
     }
 }
 
@@ -197,23 +197,23 @@ fn begins_console(image: &Image, mark: Mark) -> bool
     }
 }
 
-/// Returns the text of a mark below its line.
+/// Returns the text of a mark below its line. An output may be long, so it is freed as soon as it was copied.
 fn mark_text(
     alloc: Global,
     image: &Image,
     display: &Display<'_>,
     mark: Mark,
-    output: &[u8],
+    output: Vec<u8>,
 ) -> Result<Vec<u8>, AllocError>
-    ensures { IfOk result (λ text. text.items ≡ defined.mark_text (look_of display.now) image.now mark output.now) }
+    ensures { IfOk result (λ text. text.items ≡ defined.mark_text (look_of display.now) image.now mark output.items) }
 {
     match mark {
         Mark::Ended(edge, true) => {
-            let shown = success_output(image, display.style, edge, output);
+            let shown = success_output(image, display.style, edge, &output);
             Ok(Vec::from_slice(alloc, shown)?)
         }
         Mark::Failed(edge, cause) => {
-            failure_text(alloc, image, display.colours, edge, cause, output)
+            failure_text(alloc, image, display.colours, edge, cause, &output)
         }
         _ => Ok(Vec::new(alloc)),
     }
@@ -227,13 +227,14 @@ fn text_below(
     counts: Counts,
     last: bool,
     mark: Mark,
-    output: &[u8],
+    output: Vec<u8>,
 ) -> Result<Vec<u8>, AllocError>
-    ensures { IfOk result (λ text. text.items ≡ defined.text_below (look_of display.now) image.now counts last mark output.now) }
+    ensures { IfOk result (λ text. text.items ≡ defined.text_below (look_of display.now) image.now counts last mark output.items) }
 {
-    let text = mark_text(alloc, image, display, mark, output)?;
+    let mut text = mark_text(alloc, image, display, mark, output)?;
     let end = end_line(alloc, last, counts)?;
-    concatenate(alloc, &[text.as_slice(), end.as_slice()])
+    text.extend_from_slice(&end)?;
+    Ok(text)
 }
 
 /// A text, and whether a progress line is open after it.
@@ -254,10 +255,10 @@ fn own_text(
     line_open: bool,
     counts: Counts,
     mark: Mark,
-    output: &[u8],
+    output: Vec<u8>,
 ) -> Result<Shown, AllocError>
-    ensures text { IfOk result (λ shown. shown.text.items ≡ defined.own_text (look_of display.now) image.now total pace line_open counts mark output.now) }
-    ensures left { IfOk result (λ shown. shown.line_open ≡ defined.own_open (look_of display.now) image.now total pace line_open counts mark output.now) }
+    ensures text { IfOk result (λ shown. shown.text.items ≡ defined.own_text (look_of display.now) image.now total pace line_open counts mark output.items) }
+    ensures left { IfOk result (λ shown. shown.line_open ≡ defined.own_open (look_of display.now) image.now total pace line_open counts mark output.items) }
 {
     let Some(last) = is_last(image, total, counts, mark) else {
         return Err(AllocError);
@@ -282,10 +283,10 @@ fn text_with(
     counts: Counts,
     running: &[u32],
     mark: Mark,
-    output: &[u8],
+    output: Vec<u8>,
 ) -> Result<Shown, AllocError>
-    ensures text { IfOk result (λ shown. shown.text.items ≡ defined.text_with (look_of display.now) image.now total pace line_open counts running.now mark output.now) }
-    ensures left { IfOk result (λ shown. shown.line_open ≡ defined.open_with (look_of display.now) image.now total pace line_open counts running.now mark output.now) }
+    ensures text { IfOk result (λ shown. shown.text.items ≡ defined.text_with (look_of display.now) image.now total pace line_open counts running.now mark output.items) }
+    ensures left { IfOk result (λ shown. shown.line_open ≡ defined.open_with (look_of display.now) image.now total pace line_open counts running.now mark output.items) }
 {
     let own = own_text(
         alloc, image, display, total, pace, line_open, counts, mark, output,
@@ -293,7 +294,8 @@ fn text_with(
     let numbers = at_start(total, pace, counts);
     let still = still_line(alloc, image, display, numbers, mark, running)?;
     let line_open = is_open(display.on_terminal, own.line_open, &still);
-    let text = concatenate(alloc, &[own.text.as_slice(), still.as_slice()])?;
+    let mut text = own.text;
+    text.extend_from_slice(&still)?;
     Ok(Shown { text, line_open })
 }
 
@@ -330,10 +332,10 @@ impl<O: Outputs + Stopwatch> Format for BuildLines<'_, O> {
         let rate = recent_rate(&times)?;
         let pace = Pace { elapsed, rate };
         let output = output_with(image, self.outputs, mark);
-        let bytes = bytes_of(&output);
+        let output = output_or_empty(alloc, output);
         let (display, was_open) = (self.display, self.line_open);
         let shown = text_with(
-            alloc, image, &display, total, pace, was_open, counts, &running, mark, bytes,
+            alloc, image, &display, total, pace, was_open, counts, &running, mark, output,
         )?;
         announce(image, self.outputs, mark, &shown.text);
         self.counts = counts;

@@ -26,7 +26,7 @@ returns-clause-tells g c = λ before text told.
     let elapsed : ℕ = c.elapsed_with-elapsed.result in
     let pace : Pace = record { elapsed = elapsed; rate = c.in_ok-rate.rate } in
     let output : Option (List ℕ) = option_map (λ text. text.items) c.output_with-output.result in
-    let bytes : List ℕ = c.bytes_of-bytes.result.now in
+    let bytes : List ℕ = c.output_or_empty-output.result.items in
     let same : c.image-image.result.now ≡ p = c.image-image.ensures.same in
     let count : c.in-Some.counts ≡ counted p counts c.args.mark
     = c.in-Some.ensures ∙ ap (λ (q : Parts). counted q counts c.args.mark) same in
@@ -41,10 +41,10 @@ returns-clause-tells g c = λ before text told.
     = c.in_ok-shown.ensures.text
     ∙ (ap (λ (rs : List ℕ). text_with look c.image-image.result.now c.args.total pace was_open c.in-Some.counts rs c.args.mark bytes) c.deref-4.ensures.value
     ∙ (ap (λ (q : Parts). text_with look q c.args.total pace was_open c.in-Some.counts runs c.args.mark bytes) same
-    ∙ ap (λ (ys : List ℕ). text_with look p c.args.total pace was_open c.in-Some.counts runs c.args.mark ys) c.bytes_of-bytes.ensures)) in
+    ∙ ap (λ (ys : List ℕ). text_with look p c.args.total pace was_open c.in-Some.counts runs c.args.mark ys) c.output_or_empty-output.ensures)) in
     let left : c.in_ok-shown.shown.line_open ≡ open_with look p c.args.total pace was_open c.in-Some.counts runs c.args.mark (or_empty output)
     = c.in_ok-shown.ensures.left
     ∙ (ap (λ (rs : List ℕ). open_with look c.image-image.result.now c.args.total pace was_open c.in-Some.counts rs c.args.mark bytes) c.deref-4.ensures.value
     ∙ (ap (λ (q : Parts). open_with look q c.args.total pace was_open c.in-Some.counts runs c.args.mark bytes) same
-    ∙ ap (λ (ys : List ℕ). open_with look p c.args.total pace was_open c.in-Some.counts runs c.args.mark ys) c.bytes_of-bytes.ensures)) in
+    ∙ ap (λ (ys : List ℕ). open_with look p c.args.total pace was_open c.in-Some.counts runs c.args.mark ys) c.output_or_empty-output.ensures)) in
     tells_next taken showed look p c.args.total counts was_open running times before text c.args.mark output pace c.in-Some.counts c.in_ok-shown.shown.line_open runs now_times c.in_ok-shown.shown.text.items count run pass rate said left one c.elapsed_with-elapsed.ensures told
