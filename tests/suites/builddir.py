@@ -476,8 +476,9 @@ def read_only(front: str, gone: Sequence[str], builder: str, folder: pathlib.Pat
         for words in (*READING[:1], *(() if RECORD in gone else ((),))):
             expect(f"{words}", nothing, as_nobody(builder, folder, *words))
         expect("reasons", 0, as_nobody(builder, folder, "-t", "explain")[2])
-        for tool in ("targets", "commands", "compdb", *(() if "lock" in " ".join(gone) else ("cleandead",))):
-            expect(tool, ("", 0), as_nobody(builder, folder, "-t", tool)[1:])
+        for words in (("-t", "targets"), ("-t", "commands"), ("-t", "compdb"), ("-t", "cleandead"),
+                      ("-n", "-t", "cleandead")):
+            expect(f"{words}", ("", 0), as_nobody(builder, folder, *words)[1:])
         close(folder, True)
         (folder / "in").write_text("new\n")
         close(folder, False)

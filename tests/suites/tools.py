@@ -16,7 +16,7 @@ from collections.abc import Callable, Iterator
 from typing import NamedTuple
 
 from lib import locks, programs
-from lib.place import Place, expect
+from lib.place import GATED, Place, expect
 from lib.suite import PATIENCE, Case, LeftOut, Setting
 
 # ---- words on a tree
@@ -440,6 +440,25 @@ def outputs_of_the_past_are_cleaned(place: Place) -> None:
     expect("again", ("Cleaning... 0 files.\n", "", 0), says(place, "-t", "cleandead"))
 
 
+def dry_tool_does_not_wait(place: Place) -> None:
+    """-n -t cleandead lists dead outputs while a build runs; -t cleandead waits for its end."""
+    place.write("a touch $out", "b touch $out")
+    expect("built", 0, place.done().returncode)
+    place.write("b touch $out", f"c {GATED}")
+    child = place.started("c")
+    place.begun("c")
+    listed = says(place, "-n", "-t", "cleandead")
+    expect("listed", (["1 files.", "Cleaning...", "Remove a"], "", 0), (sorted(listed[0].splitlines()), *listed[1:]))
+    expect("a is there", True, place.has("a"))
+    tool = place.started("-t", "cleandead")
+    time.sleep(0.3)
+    expect("a is still there", (True, None), (place.has("a"), tool.poll()))
+    (place.folder / "go").touch()
+    expect("status of the build", 0, child.wait(PATIENCE))
+    expect("status of the tool", 0, tool.wait(PATIENCE))
+    expect("a is there then", False, place.has("a"))
+
+
 # ---- standard output
 
 def reader_goes_away(place: Place) -> None:
@@ -552,9 +571,9 @@ def restat_takes_files_as_they_are(place: Place) -> None:
 
 
 TRIALS: tuple[Callable[[Place], None], ...] = (
-    folders_are_cleaned, cleaned_is_built_again, clean_in_a_build, outputs_of_the_past_are_cleaned, reader_goes_away,
-    refused_manifest, old_entries_are_dropped, grown_record_is_rewritten, recompact_waits_for_the_lock,
-    record_held_above_stays, restat_takes_files_as_they_are)
+    folders_are_cleaned, cleaned_is_built_again, clean_in_a_build, outputs_of_the_past_are_cleaned,
+    dry_tool_does_not_wait, reader_goes_away, refused_manifest, old_entries_are_dropped, grown_record_is_rewritten,
+    recompact_waits_for_the_lock, record_held_above_stays, restat_takes_files_as_they_are)
 
 
 def check(builder: str, trial: Callable[[Place], None], folder: pathlib.Path) -> None:

@@ -7,7 +7,7 @@ use crate::path_lists::{set_of, without};
 use crate::tool::BuildFiles;
 use plan_printing::file_fault;
 use plan_text::RowList;
-use plan_world::{OpenFault, recompact, recorded_outputs, recorded_paths, restat};
+use plan_world::{OpenFault, ReadingMode, recompact, recorded_outputs, recorded_paths, restat};
 use std::alloc::{AllocError, Global};
 
 /// Returns the fault of a record that can't be used.
@@ -43,8 +43,12 @@ pub fn restat_record(rt: &HostRuntime, record: &str, outputs: &[&[u8]]) -> Resul
 }
 
 /// Returns the outputs that the record has entries of.
-fn outputs_recorded(rt: &HostRuntime, record: &str) -> Result<RowList<u8>, ToolFault> {
-    match recorded_outputs(rt, record) {
+fn outputs_recorded(
+    rt: &HostRuntime,
+    record: &str,
+    mode: ReadingMode,
+) -> Result<RowList<u8>, ToolFault> {
+    match recorded_outputs(rt, record, mode) {
         Ok(outputs) => Ok(outputs),
         Err(fault) => Err(record_fault(rt.alloc(), record, fault)),
     }
@@ -74,23 +78,37 @@ fn living_outputs(
 fn unused(
     rt: &HostRuntime,
     record: &str,
+    mode: ReadingMode,
     outputs: &RowList<u8>,
     dead: &RowList<u8>,
 ) -> Result<RowList<u8>, ToolFault> {
     let alloc = rt.alloc();
     let living = living_outputs(alloc, outputs, dead)?;
     let wanted = set_of(alloc, dead)?;
-    match recorded_paths(rt, record, &living, &wanted) {
+    match recorded_paths(rt, record, mode, &living, &wanted) {
         Ok(used) => without(alloc, dead, &used),
         Err(fault) => Err(record_fault(alloc, record, fault)),
     }
 }
 
 /// Returns the outputs in the record that no build line names anymore, and that no other output was made from.
-fn dead_in_record(rt: &HostRuntime, files: &BuildFiles<'_>) -> Result<RowList<u8>, ToolFault> {
-    let outputs = outputs_recorded(rt, files.record)?;
+fn dead_in_record(
+    rt: &HostRuntime,
+    files: &BuildFiles<'_>,
+    mode: ReadingMode,
+) -> Result<RowList<u8>, ToolFault> {
+    let outputs = outputs_recorded(rt, files.record, mode)?;
     let dead = dead_files(rt, files.manifest, &outputs)?;
-    unused(rt, files.record, &outputs, &dead)
+    unused(rt, files.record, mode, &outputs, &dead)
+}
+
+/// Returns how the record is read: a dry run doesn't wait for a build.
+fn mode_of(manner: Manner) -> ReadingMode {
+    if manner.is_dry {
+        ReadingMode::AsIs
+    } else {
+        ReadingMode::Waiting
+    }
 }
 
 /// Removes the outputs in the record that no build line names anymore, and returns the exit status. What the last
@@ -104,6 +122,6 @@ pub fn clean_recorded<E: Print>(
     files: BuildFiles<'_>,
     manner: Manner,
 ) -> Result<u8, ToolFault> {
-    let dead = dead_in_record(rt, &files)?;
+    let dead = dead_in_record(rt, &files, mode_of(manner))?;
     remove_files(rt, errors, manner, dead)
 }

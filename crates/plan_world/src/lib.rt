@@ -4,6 +4,7 @@
 //! - `Shells`: starts the shells of commands and waits for them. `SystemShells`: the shells of the system.
 //! - `OpenFault`: why a record can't be opened.
 //! - `recompact`, `restat`, `recorded_outputs`, `recorded_paths`: rewrite or list a record between builds.
+//!   `ReadingMode`: whether a list waits for a build.
 //! - `take_over`: moves the entries of some outputs to a new record.
 //! - `SharedFile`: a file with a lock, such as the record's file. `VARIABLE` names the builders above a command.
 //! - `Process`, `all_processes`, `own_process`, `with_below`: the processes of the system.
@@ -38,7 +39,7 @@ mod world;
 
 pub use builder_lock::{SharedFile, VARIABLE};
 pub use fault::OpenFault;
-pub use maintenance::{recompact, recorded_outputs, recorded_paths, restat};
+pub use maintenance::{ReadingMode, recompact, recorded_outputs, recorded_paths, restat};
 pub use processes::{Process, all_processes, own_process, with_below};
 pub use shell::{Printed, Shells, SystemShells};
 pub use taking_over::take_over;

@@ -1,16 +1,16 @@
 //! Rewrites records between builds, and lists their outputs.
 
-use crate::builder_lock::{BuilderLock, SharedFile, take_lock};
+use crate::builder_lock::{BuilderLock, SharedFile, is_unwritable, take_lock};
 use crate::fault::{DeviceFault, OpenFault};
 use crate::reasons::say;
-use crate::record_file::{RecordFile, open_file, open_record};
+use crate::record_file::{RecordFile, open_file, open_record, read_as_is};
 use crate::record_sink::entry_among;
 use crate::rewriting::{compact, restate};
 use plan_text::{PathFilter, RowList};
 use std::alloc::{AllocError, Global};
 use std::env::Env;
 use std::fs::{self, OpenFile};
-use std::io::{Read, Seek, Write};
+use std::io::{ErrorKind, Read, Seek, Write};
 use std::rt::Files;
 use std::time::Clock;
 
@@ -25,6 +25,34 @@ where
     drop(open_file(rt, record)?);
     let lock = take_lock(rt, record)?;
     Ok((lock, open_record(rt, record)?))
+}
+
+/// How a record is opened to be read between builds.
+#[derive(Clone, Copy, PartialEq, Eq)]
+pub enum ReadingMode {
+    /// Waits while a builder uses the record, unless its lock may not be created.
+    Waiting,
+    /// Reads the record as it is now, also while a builder uses it. Creates no lock.
+    AsIs,
+}
+
+/// Opens a record to read it.
+fn opened_to_read<R: Files + Env + Clock + Eprint + AllocGlobal + Clone + Drop>(
+    rt: &R,
+    record: &str,
+    mode: ReadingMode,
+) -> Result<RecordFile<R::File>, DeviceFault>
+where
+    R::File: Read + Write + Seek + OpenFile + SharedFile + Drop,
+{
+    if mode == ReadingMode::AsIs {
+        return read_as_is(rt, record, ErrorKind::PermissionDenied);
+    }
+    match locked_record(rt, record) {
+        Ok((_lock, file)) => Ok(file),
+        Err(DeviceFault::System(kind, _)) if is_unwritable(kind) => read_as_is(rt, record, kind),
+        Err(fault) => Err(fault),
+    }
 }
 
 /// Returns the result of a request. If the record can't be changed or read, reports the reason on standard error.
@@ -129,6 +157,7 @@ where
 fn outputs_of_file<R: Files + Env + Clock + Eprint + AllocGlobal + Clone + Drop>(
     rt: &R,
     record: &str,
+    mode: ReadingMode,
 ) -> Result<RowList<u8>, DeviceFault>
 where
     R::File: Read + Write + Seek + OpenFile + SharedFile + Drop,
@@ -136,20 +165,20 @@ where
     if !fs::exists(rt, record)? {
         return Ok(RowList::new(rt.alloc()));
     }
-    let (_lock, file) = locked_record(rt, record)?;
-    file.outputs(rt.alloc())
+    opened_to_read(rt, record, mode)?.outputs(rt.alloc())
 }
 
 /// Returns the outputs that a record has entries of, each once, in the order of their last entries. If the record
 /// doesn't exist, returns no outputs, and creates no record.
 ///
-/// Waits while a builder uses the record, unless this program was started by a command of that builder.
+/// If it waits, it doesn't wait for a builder by whose command this program was started.
 ///
 /// # Errors
 /// `Device` if the record or its lock can't be opened, read or locked, and `Memory`.
 pub fn recorded_outputs<R: Files + Env + Clock + Eprint + AllocGlobal + Clone + Drop>(
     rt: &R,
     record: &str,
+    mode: ReadingMode,
 ) -> Result<RowList<u8>, OpenFault>
 where
     R::File: Read + Write + Seek + OpenFile + SharedFile + Drop,
@@ -158,7 +187,7 @@ where
         rt,
         "can't read the record",
         record,
-        outputs_of_file(rt, record),
+        outputs_of_file(rt, record, mode),
     )
 }
 
@@ -206,6 +235,7 @@ fn paths_of_record<F>(
 fn paths_of_file<R: Files + Env + Clock + Eprint + AllocGlobal + Clone + Drop>(
     rt: &R,
     record: &str,
+    mode: ReadingMode,
     outputs: &RowList<u8>,
     wanted: &PathFilter,
 ) -> Result<RowList<u8>, DeviceFault>
@@ -215,7 +245,7 @@ where
     if !fs::exists(rt, record)? {
         return Ok(RowList::new(rt.alloc()));
     }
-    let (_lock, file) = locked_record(rt, record)?;
+    let file = opened_to_read(rt, record, mode)?;
     paths_of_record(rt.alloc(), &file, outputs, wanted)
 }
 
@@ -230,6 +260,7 @@ where
 pub fn recorded_paths<R: Files + Env + Clock + Eprint + AllocGlobal + Clone + Drop>(
     rt: &R,
     record: &str,
+    mode: ReadingMode,
     outputs: &RowList<u8>,
     wanted: &PathFilter,
 ) -> Result<RowList<u8>, OpenFault>
@@ -240,6 +271,6 @@ where
         rt,
         "can't read the record",
         record,
-        paths_of_file(rt, record, outputs, wanted),
+        paths_of_file(rt, record, mode, outputs, wanted),
     )
 }

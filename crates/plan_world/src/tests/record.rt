@@ -1,7 +1,7 @@
 //! Records of builds.
 
 use super::*;
-use crate::{OpenFault, recompact, recorded_outputs, recorded_paths, restat};
+use crate::{OpenFault, ReadingMode, recompact, recorded_outputs, recorded_paths, restat};
 use plan_text::PathFilter;
 use std::fs::{FileTimes, OpenOptions};
 use std::os::unix::fs::MetadataExt;
@@ -351,15 +351,18 @@ fn paths_of_a_record(rt: HostRuntime) -> Result<(), Fail> {
     let mut wanted = PathFilter::new(rt.alloc(), 2)?;
     wanted.add(b"y");
     wanted.add(b"z");
+    let mode = ReadingMode::Waiting;
     assert_eq!(rt;
-        recorded_paths(&rt, record.as_str(), &outputs, &wanted)?.len(),
+        recorded_paths(&rt, record.as_str(), mode, &outputs, &wanted)?.len(),
         0
     );
     assert!(rt; !fs::exists(&rt, record.as_str())?);
     let world = world_in(&rt, folder.as_str())?;
     keeps_and_begins(&rt, rt.alloc(), &world)?;
+    let found = recorded_paths(&rt, record.as_str(), ReadingMode::AsIs, &outputs, &wanted)?;
+    assert_eq!(rt; found.len(), 1);
     drop(world);
-    let found = recorded_paths(&rt, record.as_str(), &outputs, &wanted)?;
+    let found = recorded_paths(&rt, record.as_str(), mode, &outputs, &wanted)?;
     assert_eq!(rt; found.len(), 1);
     assert_eq!(rt; found.row(0), b"y".as_slice());
     remove(&rt, folder);
@@ -373,7 +376,10 @@ fn recompacted(rt: HostRuntime) -> Result<(), Fail> {
     let record = format!(in rt.alloc(); "{folder}/record")?;
     recompact(&rt, record.as_str())?;
     restat(&rt, record.as_str(), &[])?;
-    assert_eq!(rt; recorded_outputs(&rt, record.as_str())?.len(), 0);
+    assert_eq!(rt;
+        recorded_outputs(&rt, record.as_str(), ReadingMode::Waiting)?.len(),
+        0
+    );
     assert!(rt; !fs::exists(&rt, record.as_str())?);
     write_entries(&rt, record.as_str(), 2)?;
     recompact(&rt, record.as_str())?;
@@ -392,7 +398,7 @@ fn outputs_of_a_record(rt: HostRuntime) -> Result<(), Fail> {
     bytes.extend_from_slice(&BEGUN_ENTRY)?;
     bytes[ENTRY.len() + 6] = b'b';
     fs::write(&rt, path.as_str(), bytes.as_slice())?;
-    let outputs = recorded_outputs(&rt, path.as_str())?;
+    let outputs = recorded_outputs(&rt, path.as_str(), ReadingMode::Waiting)?;
     assert_eq!(rt; outputs.len(), 2);
     assert_eq!(rt; outputs.row(0), b"b".as_slice());
     assert_eq!(rt; outputs.row(1), b"a".as_slice());
