@@ -65,6 +65,7 @@ def answered_numbers() -> dict[int, str]:
             numbers.update({int(number): name for name, number in found})
         if path in own:
             numbers.update({int(number): "" for number in re.findall(r"\bnumber: (\d+)", text)})
+            numbers.update({int(number): "" for number in re.findall(r"\bconst \w+_SOURCE: u8 = (\d+)", text)})
     return numbers
 
 

@@ -254,7 +254,7 @@ CHANGES = {
     "header_removed": Change(lambda folder: (folder / header(1)).unlink(), [((), Wanted(readers(1)))], False),
     "output_removed": Change(lambda folder: (folder / object_of(150)).unlink(), [((), Wanted(with_libraries([150])))]),
     "source_removed": Change(lambda folder: (folder / source_of(150)).unlink(), [
-        ((), Wanted(set(), 1, f"ninja: error: '{source_of(150)}', needed by '{object_of(150)}', {NO_RULE}"))],
+        ((), Wanted(set(), 1, errors=f"ninja: error: '{source_of(150)}', needed by '{object_of(150)}', {NO_RULE}"))],
         False),
     "manifest_made_again": Change(template_has_one_more, [((), Wanted({"build.ninja", "out/more"}))]),
     "named_target": Change(lambda folder: touched(folder, header(0)), [

@@ -1,8 +1,8 @@
 """Builds trees with plan_build, and compares all that it prints with the text that plan_progress defines (BuildLines).
 
 Each line `[n/m] LABEL` comes right before the output of its command, whatever runs at the same time. If ninja is
-installed, the lines of a build after one change must be ninja's, and so must the sentence on a missing source and the
-text before labels by NINJA_STATUS, in a pipe and on a terminal.
+installed, the lines of a build after one change must be ninja's, and so must the text before labels by NINJA_STATUS, in
+a pipe and on a terminal.
 """
 from __future__ import annotations
 
@@ -360,34 +360,20 @@ def clean_after_a_restat(builder: str, folder: pathlib.Path) -> None:
     expect("second", ("[1/4] a\n[2/2] d\n", "", 0), says(builder, folder, "-j", "1"))
 
 
-# ---- missing sources
+# ---- sources that a command removes
 
-MISSING = {"of a command": "build out: touch nosuch\n",
-           "of a phony": "build out: phony nosuch\n",
-           "after an order": "build out: touch || nosuch\n"}
-SENTENCE = "ninja: error: 'nosuch', needed by 'out', missing and no known rule to make it\n"
-
-
-def missing(build: str, builder: str, folder: pathlib.Path) -> None:
-    """A missing source has ninja's sentence and nothing else, since nothing ran. It is printed on standard output."""
-    programs.write({"build.ninja": f"rule touch\n  command = touch $out\n{build}"}, folder)
-    expect("said", (SENTENCE, "", 1), says(builder, folder))
-    ninja = shutil.which("ninja")
-    if ninja:
-        expect("ninja said", ("", SENTENCE, 1), says(ninja, folder))
+SENTENCE = "ninja: error: 'src', needed by 'out', missing and no known rule to make it\n"
+REMOVED = [Edge("first", "rm -f src; touch $out"), Edge("out", "touch $out", "src || first"),
+           Edge("a", "touch $out", "out"), Edge("b", "touch $out", "a")]
 
 
 def missing_with_others(builder: str, folder: pathlib.Path) -> None:
-    """With -k 0 the other edges are built. If one is, those that need the failed one are counted."""
-    edges = [Edge("out", "touch $out", "nosuch"), Edge("a", "touch $out", "out"), Edge("b", "touch $out", "a")]
-    write(folder, edges)
-    expect("said", (SENTENCE, "", 1), says(builder, folder, "-k", "0"))
-    write(folder, [*edges, Edge("c", "touch $out")])
+    """A source that is missing when its edge begins has ninja's sentence. The edges that need the edge are counted."""
+    write(folder, REMOVED)
+    (folder / "src").touch()
     stopped = "ninja: build stopped: cannot make progress due to previous errors.\n"
-    printed, error, status = says(builder, folder, "-k", "0", "-j", "1")
-    expect("said with another", ("", 1), (error, status))
-    expect("lines", sorted([SENTENCE, "[1/2] c\n", "2 skipped\n", stopped]),
-           sorted(re.sub(r"\[\d/\d\]", "[1/2]", printed).splitlines(True)))
+    expect("said", (f"[1/2] first\n{SENTENCE}2 skipped\n{stopped}", "", 1),
+           (lambda said: (re.sub(r"\[\d/\d\]", "[1/2]", said[0]), *said[1:]))(says(builder, folder, "-k", "0")))
 
 
 # ---- standard output that can't be written
@@ -580,10 +566,11 @@ def numbers_side_by_side(builder: str, folder: pathlib.Path) -> None:
 
 def missing_source_has_started(builder: str, folder: pathlib.Path) -> None:
     """An edge with a missing source counts as started, so the number of commands that run stays right."""
-    write(folder, [Edge("a", "touch $out", "nosuch"), Edge("b", "touch $out"), Edge("c", "touch $out", "b")])
+    write(folder, [*REMOVED[:2], Edge("b", "touch $out", "|| first"), Edge("c", "touch $out", "b")])
+    (folder / "src").touch()
     printed, error, status = with_template(NUMBERS, builder, folder, "-j", "1", "-k", "0")
     expect("errors and status", ("", 1), (error, status))
-    expect("last label", "3/3 100% 1 0 3%: c", [line for line in printed.splitlines() if "%: " in line][-1])
+    expect("last label", "4/4 100% 1 0 4%: c", [line for line in printed.splitlines() if "%: " in line][-1])
 
 
 def times(builder: str, folder: pathlib.Path) -> None:
@@ -677,8 +664,6 @@ def cases(setting: Setting) -> Iterator[Case]:
     for jobs in ("1", "2", "4"):
         yield Case(f"one change at -j {jobs}", functools.partial(one_change, jobs, builder))
     yield Case("labels before commands", functools.partial(labels_before_commands, builder))
-    for kind, build in MISSING.items():
-        yield Case(f"missing source {kind}", functools.partial(missing, build, builder))
     for redirection in (">&-", ">/dev/full"):
         yield Case(f"output {redirection}", functools.partial(lost, redirection, builder))
     for words in ((), ("-k", "0")):

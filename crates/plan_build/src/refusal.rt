@@ -46,6 +46,11 @@ const LIMIT_OF_PATHS: &[u8] =
 /// The number of the fault that no edge makes a target.
 pub const UNKNOWN_TARGET: u8 = 132;
 
+/// The numbers of the fault that a source is missing: one that the targets need, and one that the manifest needs.
+const TARGET_SOURCE: u8 = 135;
+
+const MAKER_SOURCE: u8 = 136;
+
 /// Returns the number and the name of a fault, as they end the first line of a message: ` [NUMBER NAME]`.
 fn code_of(alloc: Global, number: u8) -> Result<Vec<u8>, AllocError> {
     let fault = PlanFault {
@@ -246,6 +251,28 @@ fn refuse_target<E: Print>(alloc: Global, errors: &E, name: &[u8]) {
     }
 }
 
+/// Reports that a source is missing, in ninja's words. `sentence` has the paths of the source and of an output.
+fn refuse_source<E: Print>(alloc: Global, errors: &E, sentence: &[u8]) {
+    complain(alloc, errors, &[b"ninja: error: ", &*sentence, b"\n"]);
+}
+
+/// Reports that a source is missing that the edge needs which makes the manifest, in ninja's words.
+fn refuse_source_of_manifest<E: Print>(
+    alloc: Global,
+    errors: &E,
+    manifest: &[u8],
+    sentence: &[u8],
+) {
+    complain_of(
+        alloc,
+        errors,
+        b"ninja: error: rebuilding '",
+        manifest,
+        b"': ",
+        sentence,
+    );
+}
+
 /// Reports that no edge makes a default target, in ninja's words.
 fn refuse_default<E: Print>(alloc: Global, errors: &E, name: &[u8]) {
     let head: &[&[u8]] = &[b"ninja: error: unknown target '", &*name, b"'"];
@@ -278,6 +305,8 @@ pub fn refuse<R: Files + Eprint + AllocGlobal, E: Print>(
     match (fault.number, place_in(name)) {
         (UNKNOWN_TARGET, _) => refuse_target(alloc, errors, name),
         (UNKNOWN_DEFAULT, _) => refuse_default(alloc, errors, name),
+        (TARGET_SOURCE, _) => refuse_source(alloc, errors, name),
+        (MAKER_SOURCE, _) => refuse_source_of_manifest(alloc, errors, manifest, name),
         (SOURCE_MISSING, Some(place)) if place.file == manifest => {
             return refuse_loading(alloc, errors, manifest, ErrorKind::NotFound);
         }

@@ -21,6 +21,7 @@ use Rattle.plan_lanes.specs.declared.board.Report.{Report}
 use Rattle.plan_lanes.specs.declared.fault.LaneFault.{LaneFault}
 use Rattle.plan_lanes.specs.declared.fault.LaneFault.TheVariants as lanes
 use Rattle.plan_status.specs.declared.fault.PrintFault.{PrintFault}
+use Rattle.plan_printing.specs.Faults.{no_memory}
 use Rattle.plan_printing.specs.declared.fault.PlanFault.{PlanFault}
 use Rattle.plan_commands.specs.declared.building.Round.{Round}
 use Rattle.plan_commands.specs.declared.building.Round.TheVariants as round
@@ -28,10 +29,11 @@ use Rattle.plan_commands.specs.declared.building.Done.{Done}
 use Rattle.plan_commands.specs.declared.building.Done.TheVariants as done
 use Rattle.plan_commands.specs.Commands.{IsMeant, IsRefused, MayLoad as MayLoads, loading_by}
 use Rattle.plan_commands.specs.Images.{SinkState}
+use Rattle.plan_commands.specs.NeededFiles.{HasSources, LacksSource}
 use Rattle.plan_commands.specs.Showing.{IsShown, Shown}
 use Rattle.plan_commands.specs.Running.{EndsPrinted, report_in}
 use Rattle.plan_commands.specs.Targets.{target, targets}
-use Rattle.plan_commands.specs.Building.{Asked, IsRead, Nowhere, opened, maker_of, ok_of, outcome_in, Rounds, no_round, one_more, IsUpToDate, FailsToRemake, BuildsTargets, Builds, EndsAs, most_rounds, IsNotRead, IsImageRecorded, LacksRecorded, RefusesRecorded, LacksMemory, RunStops, IsNotRun, RoundStops, TargetsStop, Stops, IsLost, IsRoundOf, EndsRound, HasRunNothing, RunsTargets}
+use Rattle.plan_commands.specs.Building.{Asked, IsRead, Nowhere, opened, maker_of, ok_of, outcome_in, Rounds, no_round, one_more, IsUpToDate, FailsToRemake, BuildsTargets, Builds, EndsAs, most_rounds, IsNotRead, IsImageRecorded, LacksRecorded, RefusesRecorded, LacksMemory, RunStops, RunFails, IsNotRun, IsNotTried, maker_source, target_source, RoundStops, TargetsStop, Stops, IsLost, IsRoundOf, EndsRound, HasRunNothing, RunsTargets}
 use Rattle.plan_commands.proofs.TargetLemmas.{all_inside}
 
 -- ---- the manifest is read
@@ -131,6 +133,18 @@ pub not_run : (shown : Shown) (rule : Rule) (o : Opened) (ran : Result Report La
 not_run shown rule o ran stop old new (Ok r) inside run ended reports printed none lost = tt
 not_run shown rule o ran stop old new (Err fault) inside run ended reports printed none lost = stopped_run shown rule o ran stop old new fault inside run ended reports printed none lost
 
+-- The reason why a run for which no source is missing has no report.
+pub not_tried : (number : ℕ) (shown : Shown) (rule : Rule) (o : Opened) (old new : SinkState) (result : Result Report PlanFault)
+    → IfErr result (λ fault. IsNotRun shown rule o old new fault) → IfErr result (λ fault. IsNotTried number shown rule o old new fault)
+not_tried number shown rule o old new (Ok r) why = tt
+not_tried number shown rule o old new (Err fault) (inl x) = inl (x.0, inr x.1)
+not_tried number shown rule o old new (Err fault) (inr x) = inr (inr x)
+
+-- The reason why a run isn't opened.
+pub not_checked : (number : ℕ) (shown : Shown) (rule : Rule) (o : Opened) (s : SinkState) (fault : PlanFault) → (fault ≡ no_memory) ⊎ LacksSource rule o.parts o.targets number fault → IsNotTried number shown rule o s s fault
+not_checked number shown rule o s fault (inl memory) = inl (refl, inl memory)
+not_checked number shown rule o s fault (inr lacks) = inr (inl (refl, lacks))
+
 -- ---- the edge that makes the manifest
 
 target_of_maker : (r : Result ℕ PlanFault) (e : ℕ) → Some e ≡ ok_of r → r ≡ Ok e
@@ -145,17 +159,17 @@ maker_is p q path m o same is by = sym is ∙ by ∙ ap (λ (x : Parts). maker_o
 
 -- How a round goes, from the run of the maker.
 pub round_by : (gives : FileContents) (shown : Shown) (rule : Rule) (a : Asked) (p : Parts) (maker : ℕ) (r : Report) (old new : SinkState) (x : Round) → IsRead gives rule a.path p → Some maker ≡ maker_of p a.path
-    → EndsPrinted shown rule (opened p a.limits (maker ∷ [])) r old new → IsRoundOf p maker r x → EndsRound gives shown rule a old new x
-round_by gives shown rule a p maker r old new (round.UpToDate q) read makes run is =
+    → HasSources rule p (maker ∷ []) → EndsPrinted shown rule (opened p a.limits (maker ∷ [])) r old new → IsRoundOf p maker r x → EndsRound gives shown rule a old new x
+round_by gives shown rule a p maker r old new (round.UpToDate q) read makes sources run is =
     subst (λ (x : Parts). IsRead gives rule a.path x × IsUpToDate shown rule a x old new) (sym is.0)
-    (read, inr (record { maker = maker; makes = sym makes; report = r; run = run; well = is.1; clean = is.2 }))
-round_by gives shown rule a p maker r old new round.Remade read makes run is = record { parts = p; read = read; maker = maker; makes = sym makes; report = r; run = run; well = is.0; ran = is.1 }
-round_by gives shown rule a p maker r old new round.Failed read makes run is = record { parts = p; read = read; maker = maker; makes = sym makes; report = r; run = run; ill = is }
+    (read, inr (record { maker = maker; makes = sym makes; sources = sources; report = r; run = run; well = is.1; clean = is.2 }))
+round_by gives shown rule a p maker r old new round.Remade read makes sources run is = record { parts = p; read = read; maker = maker; makes = sym makes; sources = sources; report = r; run = run; well = is.0; ran = is.1 }
+round_by gives shown rule a p maker r old new round.Failed read makes sources run is = record { parts = p; read = read; maker = maker; makes = sym makes; sources = sources; report = r; run = run; ill = is }
 
 -- The reason why a round stops, from the run of the maker.
 pub maker_stops : (gives : FileContents) (missing : PathSet) (shown : Shown) (rule : Rule) (a : Asked) (p : Parts) (maker : ℕ) (old new : SinkState) (fault : PlanFault) → IsRead gives rule a.path p → Some maker ≡ maker_of p a.path
-    → IsNotRun shown rule (opened p a.limits (maker ∷ [])) old new fault → RoundStops gives missing shown rule a old new fault
-maker_stops gives missing shown rule a p maker old new fault read makes (inl x) = inl (x.0, inr (inr x.1))
+    → IsNotTried maker_source shown rule (opened p a.limits (maker ∷ [])) old new fault → RoundStops gives missing shown rule a old new fault
+maker_stops gives missing shown rule a p maker old new fault read makes (inl x) = inl (x.0, inr x.1)
 maker_stops gives missing shown rule a p maker old new fault read makes (inr x) = inr (record { parts = p; read = read; maker = maker; makes = sym makes; stops = x })
 
 -- ---- if files may hold the same
@@ -174,8 +188,8 @@ module _ (g h : FileContents) (gh : (p : Text) (bytes : Option (List ℕ)) → g
 
   pub round_wider : (shown : Shown) (rule : Rule) (a : Asked) (old new : SinkState) (x : Round) → EndsRound g shown rule a old new x → EndsRound h shown rule a old new x
   round_wider shown rule a old new (round.UpToDate p) x = (read_wider rule a.path p x.0, x.1)
-  round_wider shown rule a old new round.Remade x = record { parts = x.parts; read = read_wider rule a.path x.parts x.read; maker = x.maker; makes = x.makes; report = x.report; run = x.run; well = x.well; ran = x.ran }
-  round_wider shown rule a old new round.Failed x = record { parts = x.parts; read = read_wider rule a.path x.parts x.read; maker = x.maker; makes = x.makes; report = x.report; run = x.run; ill = x.ill }
+  round_wider shown rule a old new round.Remade x = record { parts = x.parts; read = read_wider rule a.path x.parts x.read; maker = x.maker; makes = x.makes; sources = x.sources; report = x.report; run = x.run; well = x.well; ran = x.ran }
+  round_wider shown rule a old new round.Failed x = record { parts = x.parts; read = read_wider rule a.path x.parts x.read; maker = x.maker; makes = x.makes; sources = x.sources; report = x.report; run = x.run; ill = x.ill }
 
   pub stops_wider : (m n : PathSet) → ((p : Text) → m p → n p) → (shown : Shown) (rule : Rule) (a : Asked) (old new : SinkState) (fault : PlanFault) → RoundStops g m shown rule a old new fault → RoundStops h n shown rule a old new fault
   stops_wider m n mn shown rule a old new fault (inl (same, inl x)) = inl (same, inl (not_read_wider g h m n gh mn rule a.path fault x))
@@ -234,11 +248,12 @@ pub targets_inside : (p q : Parts) (names : List Text) (edges given : List ℕ) 
 targets_inside p q names edges given same is as' = ap (any_outside p) as' ∙ all_inside p names edges (same_targets p q names edges same is)
 
 pub targets_run : (shown : Shown) (rule : Rule) (a : Asked) (p q : Parts) (edges given : List ℕ) (ran : Result Report PlanFault) (r : Report) (old new : SinkState) (d : Done) → q ≡ p → targets q a.names ≡ Ok edges → given ≡ edges
-    → ran ≡ Ok r → IfOk ran (λ x. EndsPrinted shown rule (opened p a.limits given) x old new) → EndsAs p r d → RunsTargets shown rule a p old new d
-targets_run shown rule a p q edges given ran r old new d same is as' ok run ended =
+    → ran ≡ Ok r → OnOk ran (HasSources rule p given) → IfOk ran (λ x. EndsPrinted shown rule (opened p a.limits given) x old new) → EndsAs p r d → RunsTargets shown rule a p old new d
+targets_run shown rule a p q edges given ran r old new d same is as' ok sources run ended =
     record {
       edges = edges;
       targets = same_targets p q a.names edges same is;
+      sources = subst (λ (es : List ℕ). HasSources rule p es) as' (on_ok (HasSources rule p given) ran r ok sources);
       report = r;
       run = subst (λ (es : List ℕ). EndsPrinted shown rule (opened p a.limits es) r old new) as' (ok_so (λ x. EndsPrinted shown rule (opened p a.limits given) x old new) ran r ok run);
       ends = ended;
@@ -251,10 +266,10 @@ unknown_target a shown rule p q s memory fault same (inl is) lacks = inl (refl, 
 unknown_target a shown rule p q s memory fault same (inr is) lacks = inl (refl, inl (ap (λ (x : Parts). targets x a.names) (sym same) ∙ is))
 
 pub targets_stop : (shown : Shown) (rule : Rule) (a : Asked) (p q : Parts) (edges given : List ℕ) (old new : SinkState) (fault : PlanFault) → q ≡ p → targets q a.names ≡ Ok edges → given ≡ edges
-    → IsNotRun shown rule (opened p a.limits given) old new fault → TargetsStop shown rule a p old new fault
-targets_stop shown rule a p q edges given old new fault same is as' (inl x) = inl (x.0, inr (inr x.1))
+    → IsNotTried target_source shown rule (opened p a.limits given) old new fault → TargetsStop shown rule a p old new fault
+targets_stop shown rule a p q edges given old new fault same is as' (inl x) = inl (x.0, inr x.1)
 targets_stop shown rule a p q edges given old new fault same is as' (inr x) =
-    inr (edges, same_targets p q a.names edges same is, subst (λ (es : List ℕ). RunStops shown rule (opened p a.limits es) old new fault) as' x)
+    inr (edges, same_targets p q a.names edges same is, subst (λ (es : List ℕ). RunFails target_source shown rule (opened p a.limits es) old new fault) as' x)
 
 -- ---- rounds
 
@@ -303,6 +318,7 @@ module _ (g h : FileContents) (f k : PathSet) (b c : ℕ) (shown : Shown) (rule 
         settled = settled.1;
         edges = x.edges;
         targets = x.targets;
+        sources = x.sources;
         report = x.report;
         run = x.run;
         ends = x.ends;

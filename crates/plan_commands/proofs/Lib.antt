@@ -11,3 +11,4 @@ mod ComparingLemmas
 mod CompilingLemmas
 mod DryLemmas
 mod ExplainingLemmas
+mod SourcesLemmas

@@ -33,6 +33,7 @@ use Rattle.plan_commands.specs.Commands.{IsRefused, LacksGraph, MayLoad}
 use Rattle.plan_commands.specs.Compiling.{IsImageOf, LacksImageOf}
 use Rattle.plan_commands.specs.Recorded.{AreRecorded}
 use Rattle.plan_commands.specs.Images.{SinkState}
+use Rattle.plan_commands.specs.NeededFiles.{HasSources, LacksSource}
 use Rattle.plan_commands.specs.Showing.{Shown}
 use Rattle.plan_commands.specs.Running.{EndsPrinted, LanesStop, FailsToPrint, opening_memory, printed_lane_fault, printed_print_fault}
 use Rattle.plan_commands.specs.Targets.{target, targets}
@@ -86,13 +87,21 @@ maker_of p path = ok_of (target p path)
 abbrev pub outcome_in : Report → ℕ → Option Outcome
 outcome_in r e = outcome_at (slice_get r.state.run_state.now.edges e)
 
--- A round: the manifest was read, and its maker was run as the only target. All edges that the maker needs succeeded,
--- and the maker's command ran.
+-- The numbers of the fault that a source is missing: one that the targets need, and one that the manifest needs.
+abbrev pub target_source : ℕ
+target_source = 135
+
+abbrev pub maker_source : ℕ
+maker_source = 136
+
+-- A round: the manifest was read, no source was missing that its maker needs, and the maker was run as the only target.
+-- All edges that the maker needs succeeded, and the maker's command ran.
 pub record Remakes (gives : FileContents) (shown : Shown) (rule : Rule) (a : Asked) (old new : SinkState) : Type 0 where
   pub parts : Parts
   pub read : IsRead gives rule a.path parts
   pub maker : ℕ
   pub makes : maker_of parts a.path ≡ Some maker
+  pub sources : HasSources rule parts (maker ∷ [])
   pub report : Report
   pub run : EndsPrinted shown rule (opened parts a.limits (maker ∷ [])) report old new
   pub well : all_done parts report.state.run_state.now ≡ true
@@ -108,10 +117,12 @@ pub record HasNoMaker (a : Asked) (p : Parts) (old new : SinkState) : Type 0 whe
   pub none : maker_of p a.path ≡ None
   pub same : new ≡ old
 
--- The maker was run as the only target. All edges that it needs succeeded, and its command did not run.
+-- No source was missing that the maker needs, and it was run as the only target. All edges that it needs succeeded, and
+-- its command did not run.
 pub record MakerIsClean (shown : Shown) (rule : Rule) (a : Asked) (p : Parts) (old new : SinkState) : Type 0 where
   pub maker : ℕ
   pub makes : maker_of p a.path ≡ Some maker
+  pub sources : HasSources rule p (maker ∷ [])
   pub report : Report
   pub run : EndsPrinted shown rule (opened p a.limits (maker ∷ [])) report old new
   pub well : all_done p report.state.run_state.now ≡ true
@@ -121,12 +132,14 @@ pub record MakerIsClean (shown : Shown) (rule : Rule) (a : Asked) (p : Parts) (o
 abbrev pub IsUpToDate : Shown → Rule → Asked → Parts → (old new : SinkState) → Type 0
 IsUpToDate shown rule a p old new = HasNoMaker a p old new ⊎ MakerIsClean shown rule a p old new
 
--- The maker was run as the only target. An edge that the maker needs, or the maker, did not succeed.
+-- No source was missing that the maker needs, and it was run as the only target. An edge that the maker needs, or the
+-- maker, did not succeed.
 pub record MakerFails (gives : FileContents) (shown : Shown) (rule : Rule) (a : Asked) (old new : SinkState) : Type 0 where
   pub parts : Parts
   pub read : IsRead gives rule a.path parts
   pub maker : ℕ
   pub makes : maker_of parts a.path ≡ Some maker
+  pub sources : HasSources rule parts (maker ∷ [])
   pub report : Report
   pub run : EndsPrinted shown rule (opened parts a.limits (maker ∷ [])) report old new
   pub ill : all_done parts report.state.run_state.now ≡ false
@@ -161,9 +174,9 @@ exit_status done.Failed = 1
 exit_status done.ManifestFails = 1
 exit_status done.NeverSettles = 1
 
--- After fewer than 100 rounds, the manifest that was read last is up to date, and its image was run for the edges of
--- the named targets. The run has ended, and it was shown after the rounds, in the same way. Its report determines
--- how the build ends.
+-- After fewer than 100 rounds, the manifest that was read last is up to date. No source was missing that the edges of
+-- the named targets need, and its image was run for these edges. The run has ended, and it was shown after the rounds,
+-- in the same way. Its report determines how the build ends.
 pub record BuildsTargets (gives : FileContents) (shown : Shown) (rule : Rule) (a : Asked) (old new : SinkState) (d : Done) : Type 0 where
   pub rounds : ℕ
   pub few : rounds < most_rounds
@@ -175,6 +188,7 @@ pub record BuildsTargets (gives : FileContents) (shown : Shown) (rule : Rule) (a
   pub settled : IsUpToDate shown rule a parts middle later
   pub edges : List ℕ
   pub targets : targets parts a.names ≡ Ok edges
+  pub sources : HasSources rule parts edges
   pub report : Report
   pub run : EndsPrinted shown rule (opened parts a.limits edges) report later new
   pub ends : EndsAs parts report d
@@ -224,26 +238,30 @@ RunStops shown rule o old new fault = (r : Report) × (LanesStop shown rule o r 
 abbrev pub IsNotRun : Shown → Rule → Opened → (old new : SinkState) → PlanFault → Type 0
 IsNotRun shown rule o old new fault = ((new ≡ old) × (fault ≡ opening_memory)) ⊎ RunStops shown rule o old new fault
 
--- The run of the manifest's maker stops.
+-- No run was opened, since a source is missing that a wanted edge needs, and nothing was printed. Or the run stops.
+abbrev pub RunFails : ℕ → Shown → Rule → Opened → (old new : SinkState) → PlanFault → Type 0
+RunFails number shown rule o old new fault = ((new ≡ old) × LacksSource rule o.parts o.targets number fault) ⊎ RunStops shown rule o old new fault
+
+-- The run of the manifest's maker fails.
 pub record MakerStops (gives : FileContents) (shown : Shown) (rule : Rule) (a : Asked) (old new : SinkState) (fault : PlanFault) : Type 0 where
   pub parts : Parts
   pub read : IsRead gives rule a.path parts
   pub maker : ℕ
   pub makes : maker_of parts a.path ≡ Some maker
-  pub stops : RunStops shown rule (opened parts a.limits (maker ∷ [])) old new fault
+  pub stops : RunFails maker_source shown rule (opened parts a.limits (maker ∷ [])) old new fault
 
 -- The reasons why a round stops. Either the manifest can't be read or memory ran out, and nothing of the round was
--- printed. Or the run of the maker stops.
+-- printed. Or the run of the maker fails.
 abbrev pub RoundStops : FileContents → PathSet → Shown → Rule → Asked → (old new : SinkState) → PlanFault → Type 0
 RoundStops gives missing shown rule a old new fault =
     ((new ≡ old) × (IsNotRead gives missing rule a.path fault ⊎ LacksMemory fault)) ⊎ MakerStops gives shown rule a old new fault
 
 -- The reasons why the targets of an image aren't built. Either no edge makes a target (the first one is named) or
--- memory ran out, and nothing was printed. Or the run for the edges of the targets stops.
+-- memory ran out, and nothing was printed. Or the run for the edges of the targets fails.
 abbrev pub TargetsStop : Shown → Rule → Asked → Parts → (old new : SinkState) → PlanFault → Type 0
 TargetsStop shown rule a p old new fault =
     ((new ≡ old) × ((targets p a.names ≡ Err fault) ⊎ LacksMemory fault))
-    ⊎ ((edges : List ℕ) × (targets p a.names ≡ Ok edges) × RunStops shown rule (opened p a.limits edges) old new fault)
+    ⊎ ((edges : List ℕ) × (targets p a.names ≡ Ok edges) × RunFails target_source shown rule (opened p a.limits edges) old new fault)
 
 -- The manifest that was read last is up to date, and its targets aren't built.
 pub record LastRunStops (gives : FileContents) (shown : Shown) (rule : Rule) (a : Asked) (old new : SinkState) (fault : PlanFault) : Type 0 where
@@ -262,6 +280,10 @@ pub record Stops (gives : FileContents) (missing : PathSet) (shown : Shown) (rul
   pub stops : RoundStops gives missing shown rule a middle new fault ⊎ LastRunStops gives shown rule a middle new fault
 
 -- ---- parts of a build
+
+-- Either no run was opened, since memory ran out, and nothing was printed, or the run fails.
+abbrev pub IsNotTried : ℕ → Shown → Rule → Opened → (old new : SinkState) → PlanFault → Type 0
+IsNotTried number shown rule o old new fault = ((new ≡ old) × LacksMemory fault) ⊎ RunFails number shown rule o old new fault
 
 -- The tables are the image of a manifest with what the record adds to it.
 abbrev pub IsImageRecorded : Rule → Manifest → Parts → Type 0
@@ -296,10 +318,12 @@ EndsRound gives shown rule a old new (round.UpToDate p) = IsRead gives rule a.pa
 EndsRound gives shown rule a old new round.Remade = Remakes gives shown rule a old new
 EndsRound gives shown rule a old new round.Failed = MakerFails gives shown rule a old new
 
--- An image was run for the wanted edges, and the build ends in this way.
+-- No source was missing that the edges of the targets need. An image was run for these edges, and the build ends in this
+-- way.
 pub record RunsTargets (shown : Shown) (rule : Rule) (a : Asked) (p : Parts) (old new : SinkState) (d : Done) : Type 0 where
   pub edges : List ℕ
   pub targets : targets p a.names ≡ Ok edges
+  pub sources : HasSources rule p edges
   pub report : Report
   pub run : EndsPrinted shown rule (opened p a.limits edges) report old new
   pub ends : EndsAs p report d

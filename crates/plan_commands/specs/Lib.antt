@@ -7,6 +7,7 @@ pub mod Dry
 pub mod Faults
 pub mod Images
 pub mod MakerMaps
+pub mod NeededFiles
 pub mod Recorded
 pub mod Replaying
 pub mod Verdicts

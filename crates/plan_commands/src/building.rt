@@ -11,7 +11,8 @@ ghost use Rattle.plan_lanes.specs.Faults.{FaultReports};
 ghost use Rattle.plan_lanes.specs.Reports.{IsRunOf};
 ghost use Rattle.plan_printing.specs.Faults as faults;
 ghost use Rattle.plan_commands.specs.Building as defined;
-ghost use Rattle.plan_commands.specs.Building.{Builds, EndsAs, EndsRound, HasRun, HasRunNothing, IsLost, IsNotRead, IsNotRun, IsRead, IsRoundOf, RoundStops, RunsTargets, Stops, TargetsStop};
+ghost use Rattle.plan_commands.specs.Building.{Builds, EndsAs, EndsRound, HasRun, HasRunNothing, IsLost, IsNotRead, IsNotRun, IsNotTried, IsRead, IsRoundOf, RoundStops, RunsTargets, Stops, TargetsStop};
+ghost use Rattle.plan_commands.specs.NeededFiles.{HasSources};
 ghost use Rattle.plan_commands.specs.Running.{EndsPrinted, report_in};
 ghost use Rattle.plan_commands.specs.Showing.{IsShown, by_format};
 
@@ -21,6 +22,7 @@ use crate::kept::Kept;
 use crate::printed_runs::{Printer, RunResult, run_and_show};
 use crate::recorded_image::image_recorded;
 use crate::running::{printed_lane_fault, printed_print_fault};
+use crate::sources::check_sources;
 use crate::targets::targets_of;
 use plan_image::{Image, edge_of};
 use plan_lanes::{Report, World};
@@ -171,6 +173,11 @@ fn run_explained<
     }
 }
 
+/// The numbers of the fault that a source is missing: one that the targets need, and one that the manifest needs.
+const TARGET_SOURCE: u8 = 135;
+
+const MAKER_SOURCE: u8 = 136;
+
 /// Runs an image for the given edges, prints its marks, and returns its report and the printer.
 fn run_edges<
     W: World + Send + Sync,
@@ -198,6 +205,40 @@ fn run_edges<
         rt, alloc, image, options, edges, world, explainer, parker, printer,
     );
     (printed_run(alloc, run_result), printer)
+}
+
+/// Runs an image for the given edges like `run_edges`, if no source is missing that they need. Otherwise returns the
+/// fault of this number, and prints nothing.
+fn run_with_sources<
+    W: World + Send + Sync,
+    F: Format + Send + Drop,
+    O: Sink + Send + Drop,
+    R: Threads + Wait + Sync,
+>(
+    rt: &R,
+    alloc: Global,
+    image: &Verified,
+    options: Options,
+    edges: &[u32],
+    number: u8,
+    world: &W,
+    explainer: Option<&Explainer>,
+    parker: &Parker,
+    printer: Printer<F, O>,
+) -> (Result<Report, PlanFault>, Printer<F, O>)
+    requires { any_outside image.now edges.now ≡ false }
+    ensures ran { (kept : F.Kept) → F.kept printer.format ≡ kept → IfOk result.0 (λ r. EndsPrinted (by_format F.kept F.tells kept) W.allows (defined.opened image.now options edges.now) r (O.failures printer.out, O.taken printer.out) (O.failures result.1.out, O.taken result.1.out)) }
+    ensures sources { OnOk result.0 (HasSources W.allows image.now edges.now) }
+    ensures refused { (kept : F.Kept) → F.kept printer.format ≡ kept → IfErr result.0 (λ fault. IsNotTried number (by_format F.kept F.tells kept) W.allows (defined.opened image.now options edges.now) (O.failures printer.out, O.taken printer.out) (O.failures result.1.out, O.taken result.1.out) fault) }
+    ensures state { IfOk result.0 (λ r. IsStateOf image.now r.state) }
+    ensures format { F.kept result.1.format ≡ F.kept printer.format }
+{
+    match check_sources(rt, alloc, image, edges, world, number) {
+        Ok(()) => run_edges(
+            rt, alloc, image, options, edges, world, explainer, parker, printer,
+        ),
+        Err(fault) => (Err(fault), printer),
+    }
 }
 
 /// The end of a round.
@@ -267,12 +308,13 @@ pub(crate) fn update_manifest<
             return (Err(fault), printer);
         }
     };
-    let (ran, printer) = run_edges(
+    let (ran, printer) = run_with_sources(
         rt,
         alloc,
         &image,
         order.options,
         &[maker],
+        MAKER_SOURCE,
         world,
         kept.explainer(),
         parker,
@@ -344,12 +386,13 @@ pub(crate) fn build_targets<
             return (Err(fault), printer);
         }
     };
-    let (ran, printer) = run_edges(
+    let (ran, printer) = run_with_sources(
         rt,
         alloc,
         &image,
         order.options,
         &edges,
+        TARGET_SOURCE,
         world,
         explainer,
         parker,
@@ -434,6 +477,8 @@ fn build_in_rounds<
 /// - The manifest, or a file that it includes, is missing or refused, or it has no graph or no image: as in
 ///   `do_compile`.
 /// - 132, with the name of the first such target: no edge makes a target. The manifest is up to date.
+/// - 135, or 136 if the edge that makes the manifest needs it: a file is missing that no edge makes and that a wanted
+///   edge needs. No command of the run for the targets, or of the round, began.
 /// - 110, 120 to 122: lanes stopped early. The marks until then were shown, or a prefix of them.
 /// - 133 ` -`: a write of the text failed.
 /// - 111, 131 or the number of a lower layer: memory ran out.

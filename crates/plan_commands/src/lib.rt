@@ -31,6 +31,8 @@ mod recorded_image;
 mod replay_fault;
 mod replaying;
 mod running;
+mod source_order;
+mod sources;
 mod targets;
 
 pub use building::{Done, Order, do_build};

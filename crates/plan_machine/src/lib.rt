@@ -8,7 +8,7 @@
 //! - `Event` is what may happen next, and `Reply`, with `Recorded` and `Depfile`, is an answer from outside.
 //!   `Mark` is the effect of an event. `Outcome` is the end of an edge, and `Cause` (of plan_verify) is the
 //!   reason why it failed.
-//! - `Options` has the number of jobs and the failure limit.
+//! - `Options` has the number of jobs and the failure limit. `wanted_edges` returns the edges that targets need.
 //! - The laws are about every run of a well-shaped image. It never goes wrong (`never_wrong`), its marks are
 //!   orderly (`marks_are_orderly`), it never gets stuck (`never_stuck`), and its number of events is bounded
 //!   (`stays_in_budget`). If there is no failure limit, the order of events doesn't matter
@@ -35,3 +35,4 @@ pub use run::local_runs::LocalRun;
 pub use run::refused::Refused;
 pub use run::replaying::replay;
 pub use run::state::{Options, State};
+pub use run::wanted::wanted_edges;

@@ -1,4 +1,4 @@
--- Worked examples: printed faults of graphs.
+-- Worked examples: printed faults of graphs, and of a missing source.
 use Rattle.std.proofs.Common.{◌≡◌, ℕ, List, [], ◌∷◌, refl}
 use Rattle.std.specs.Prelude.{codes, false, map}
 use Rattle.plan_scope.specs.Edge.{Edge}
@@ -6,7 +6,7 @@ use Rattle.plan_scope.specs.declared.manifest.Manifest.{Manifest}
 use Rattle.plan_graph.specs.declared.fault.GraphFault.{GraphFault}
 use Rattle.plan_graph.specs.declared.fault.GraphFault.TheVariants.{TwoProducers, Cycle, UnknownDefault, TooManyEdges, Memory}
 use Rattle.plan_printing.specs.declared.fault.PlanFault.{PlanFault}
-use Rattle.plan_printing.specs.Faults.{graph_memory, name_of, printed_graph_fault}
+use Rattle.plan_printing.specs.Faults.{graph_memory, name_of, no_source, printed_graph_fault}
 
 abbrev edge : List (List ℕ) → List (List ℕ) → Edge
 edge outputs implicit_outputs = record {
@@ -62,3 +62,6 @@ memory = refl
 
 names : map name_of (50 ∷ 51 ∷ 52 ∷ 53 ∷ 54 ∷ []) ≡ codes "TwoProducers" ∷ codes "Cycle" ∷ codes "UnknownDefault" ∷ codes "TooManyEdges" ∷ codes "Memory" ∷ []
 names = refl
+
+missing_source : no_source 135 (codes "x.c") (codes "x.o") ≡ printed 135 (codes " 'x.c', needed by 'x.o', missing and no known rule to make it")
+missing_source = refl

@@ -75,6 +75,14 @@ file_fault path = record { number = 133; rest = space ∷ path }
 abbrev pub unknown_target : List ℕ → PlanFault
 unknown_target name = record { number = 132; rest = space ∷ name }
 
+-- ` 'PATH', needed by 'OUTPUT', missing and no known rule to make it`
+abbrev pub missing_text : List ℕ → List ℕ → List ℕ
+missing_text path output = codes " '" ++ path ++ codes "', needed by '" ++ output ++ codes "', missing and no known rule to make it"
+
+-- A file that no edge makes is missing, and an edge with this first output needs it.
+abbrev pub no_source : ℕ → List ℕ → List ℕ → PlanFault
+no_source number path output = record { number = number; rest = missing_text path output }
+
 -- The program itself ran out of memory.
 abbrev pub no_memory : PlanFault
 no_memory = record { number = 131; rest = [] }
@@ -158,6 +166,8 @@ late_names =
     ∷ (132, codes "UnknownTarget")
     ∷ (133, codes "FileFault")
     ∷ (134, codes "TracesDiffer")
+    ∷ (135, codes "NoSource")
+    ∷ (136, codes "NoSourceOfManifest")
     ∷ []
 
 -- The name with a number, or another name if the list doesn't have the number.

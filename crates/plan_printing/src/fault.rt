@@ -11,7 +11,7 @@ use std::alloc::{AllocError, Global};
 /// The reason why the program refuses, and the details that are printed.
 #[derive(Drop)]
 pub struct PlanFault {
-    /// The number of the fault: 1 to 134.
+    /// The number of the fault: 1 to 136.
     pub number: u8,
     /// The text that is printed after the fault's name, such as ` build.ninja:5` or ` a -> b`.
     pub rest: Items<u8>,
@@ -33,6 +33,8 @@ fn late_name_of(number: u8) -> &'static str
         132 => "UnknownTarget",
         133 => "FileFault",
         134 => "TracesDiffer",
+        135 => "NoSource",
+        136 => "NoSourceOfManifest",
         _ => "Memory",
     }
 }
@@ -203,6 +205,32 @@ pub fn unknown_target(alloc: Global, name: &[u8]) -> PlanFault
     match space_before(alloc, name) {
         Ok(rest) => PlanFault {
             number: 132,
+            rest: Items::new(rest),
+        },
+        Err(_) => no_memory(alloc),
+    }
+}
+
+/// Returns ` 'PATH', needed by 'OUTPUT', missing and no known rule to make it`.
+fn missing_text(alloc: Global, path: &[u8], output: &[u8]) -> Result<Vec<u8>, AllocError>
+    ensures { IfOk result (λ text. text.items ≡ defined.missing_text path.now output.now) }
+{
+    let mut text = Vec::from_slice(alloc, b" '")?;
+    text.extend_from_slice(path)?;
+    text.extend_from_slice(b"', needed by '")?;
+    text.extend_from_slice(output)?;
+    text.extend_from_slice(b"', missing and no known rule to make it")?;
+    Ok(text)
+}
+
+/// Creates the fault that a file which no edge makes is missing, and that an edge with this first output needs it. The
+/// number is 135 if the targets need the edge, and 136 if the manifest does. Returns `no_memory` if memory runs out.
+pub fn no_source(alloc: Global, number: u8, path: &[u8], output: &[u8]) -> PlanFault
+    ensures { (result ≡ defined.no_source number path.now output.now) ⊎ (result ≡ defined.no_memory) }
+{
+    match missing_text(alloc, path, output) {
+        Ok(rest) => PlanFault {
+            number,
             rest: Items::new(rest),
         },
         Err(_) => no_memory(alloc),

@@ -2,7 +2,7 @@
 //!
 //! - `PlanFault`: the reason why a program refuses, with the line that is printed. `printed_fault` and
 //!   `printed_graph_fault` convert faults of a manifest. `file_fault`, `write_fault`, `output_fault`, `lost_output`,
-//!   `unknown_target` and `no_memory` create faults.
+//!   `unknown_target`, `no_source` and `no_memory` create faults.
 //! - `Standard`, `Screen`: standard output for one thread, and for several threads. `Buffer`: a sink that buffers bytes
 //!   for another sink. `ended` finishes the output of a command. `open_streams`: opens the standard streams that are
 //!   closed when the program starts.
@@ -23,8 +23,8 @@ mod screen;
 mod waiting;
 
 pub use fault::{
-    PlanFault, file_fault, lost_output, no_memory, output_fault, printed_fault, unknown_target,
-    write_fault,
+    PlanFault, file_fault, lost_output, no_memory, no_source, output_fault, printed_fault,
+    unknown_target, write_fault,
 };
 pub use files::{FileSource, IMAGE_BYTES, MANIFEST_BYTES, NewFile, TRACE_BYTES};
 pub use graph_fault::printed_graph_fault;

@@ -120,12 +120,9 @@ pub(crate) fn any_outside(parts: &Parts, targets: &[u32]) -> bool
     targets.iter().any(|e| edges <= *e as usize)
 }
 
-/// Returns, for each edge, whether it is wanted.
-pub(crate) fn wanted_edges(
-    alloc: Global,
-    parts: &Parts,
-    targets: &[u32],
-) -> Result<Vec<bool>, AllocError>
+/// Returns, for each edge of a well-shaped image, whether it is wanted: whether it is a target, or a wanted edge waits
+/// for it. If there are no targets, the image's defaults are used.
+pub fn wanted_edges(alloc: Global, parts: &Parts, targets: &[u32]) -> Result<Vec<bool>, AllocError>
     requires shaped { IsWellShaped parts.now }
     requires inside { any_outside parts.now targets.now ≡ false }
     ensures { IfOk result (λ w. AreWanted parts.now targets.now w.items) }

@@ -43,6 +43,14 @@ const WITH_HEADER: &[u8] =
 const WITH_CYCLE: &[u8] =
     b"rule cc\n  command = cc $in -o $out\n  depfile = d\nrule gen\n  command = gen $out\nbuild out: cc in\nbuild h: gen out\n";
 
+/// A manifest that names two files that are missing. `noy` comes first in the order in which ninja looks at files.
+const LACKS_SOURCES: &[u8] =
+    b"rule cc\n  command = cc $in -o $out\nbuild out: cc in\nbuild z: cc y nox\nbuild y: cc in || noy\ndefault out z\n";
+
+/// A manifest whose maker needs a file that is missing.
+const MAKER_LACKS_SOURCE: &[u8] =
+    b"rule make\n  command = make $out\n  generator = 1\nbuild build.ninja: make in lost\nbuild out: make in\n";
+
 /// Builds targets of a manifest that changes between its reads, and writes the lines to a sink.
 fn build_to<
     'x,
@@ -343,6 +351,45 @@ fn unknown_target_is_named(rt: HostRuntime) -> Result<(), Fail> {
         ),
         Ok(_) => panic!(rt; "no refusal"),
     }
+    Ok(())
+}
+
+/// Checks that a build of these targets is refused with this line, and that nothing was printed and no command ran.
+fn is_refused<R: Threads + Wait + Sync + AllocGlobal>(
+    rt: &R,
+    text: &[u8],
+    targets: &[&[u8]],
+    line: &[u8],
+) -> Result<bool, Fail> {
+    let world = Generator::new(0, 0);
+    let (printed, done) = built(rt, &[text], targets, &world)?;
+    let is_so = match done {
+        Err(found) => found.as_slice() == line,
+        Ok(_) => false,
+    };
+    Ok(is_so && printed.is_empty() && world.commands() == 0)
+}
+
+/// Checks that a missing source refuses a build before its first command, and that the first one in ninja's order is
+/// named.
+#[test]
+fn missing_source_refuses_the_build(rt: HostRuntime) -> Result<(), Fail> {
+    let of_y = b"plan: 135 NoSource 'noy', needed by 'y', missing and no known rule to make it\n";
+    assert!(rt; is_refused(&rt, LACKS_SOURCES, &[], of_y)?);
+    assert!(rt; is_refused(&rt, LACKS_SOURCES, &[b"out", b"y"], of_y)?);
+    let of_maker =
+        b"plan: 136 NoSourceOfManifest 'lost', needed by 'build.ninja', missing and no known rule to make it\n";
+    assert!(rt; is_refused(&rt, MAKER_LACKS_SOURCE, &[b"out"], of_maker)?);
+    Ok(())
+}
+
+/// Checks that a missing source that the targets don't need refuses nothing.
+#[test]
+fn missing_source_of_others_is_left(rt: HostRuntime) -> Result<(), Fail> {
+    let world = Generator::new(0, 0);
+    let (text, done) = built(&rt, &[LACKS_SOURCES], &[b"out"], &world)?;
+    assert_eq!(rt; text.as_slice(), b"[1/1] cc in -o out\n".as_slice());
+    assert!(rt; matches!(&done, Ok(Done::Built)));
     Ok(())
 }
 
