@@ -42,7 +42,7 @@ WIDE = {
 FOREIGN: dict[str, set[str]] = {
     "rules/manifest.md": {"ninja_required_version"},  # ninja's own variable
     "using/refusals.md": {"ninja_required_version"},
-    "developing/decisions.md": {"ninja_required_version"},
+    "developing/decisions.md": {"ninja_required_version", "RandomState"},  # the latter is of the kit
     "developing/proofs/patterns.md": {"with_x"},  # a form's placeholder
     "developing/proofs/refused-forms.md": {"at_exit"},
 }
