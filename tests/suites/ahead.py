@@ -41,6 +41,7 @@ LOST_OUTPUT = "ninja: error: standard output can't be written [133 FileFault]\n"
 # The lines of commands that ran, and the line that counts edges that didn't run after a failure.
 LINES = re.compile(r"\[\d+/\d+\] .*\n|\d+ skipped\n|\d+ not started\n|\d+ skipped, \d+ not started\n")
 KILLS = 8
+KEEPS = ("-d", "keepdepfile")  # the commands leave their depfiles as they are
 RULES = """rule cc
   command = : > $out
   depfile = $out.d
@@ -162,14 +163,9 @@ def copied(tree: pathlib.Path, folder: pathlib.Path) -> pathlib.Path:
     return folder
 
 
-def own_words(builder: str) -> List[str]:
-    """Returns the words by which a builder keeps depfiles."""
-    return ["-d", "keepdepfile"] if pathlib.Path(builder).name == "ninja" else []
-
-
 def ran(place: Place, *words: str) -> subprocess.CompletedProcess[bytes]:
     """Runs a builder to its end."""
-    return programs.run([place.builder, *own_words(place.builder), *words], place.folder)
+    return programs.run([place.builder, *KEEPS, *words], place.folder)
 
 
 def lines_of(done: subprocess.CompletedProcess[bytes]) -> Set[str]:
@@ -312,7 +308,7 @@ def record_lost_while_waiting(place: Place, jobs: str) -> None:
     touched(place.folder, header(0))
     record, aside = place.folder / RECORD, place.folder / "aside"
     with locks.held(place.folder / f"{RECORD}.lock") as holder:
-        child = place.started("-j", jobs)
+        child = place.started(*KEEPS, "-j", jobs)
         assert child.stdout
         expect("first line", WAITING.format(holder), child.stdout.readline().decode())
         record.rename(aside)
@@ -334,7 +330,7 @@ def record_locked(place: Place, jobs: str) -> None:
     """While another process holds the record, nothing runs; then the build is as always."""
     touched(place.folder, header(0))
     with locked(place.folder / RECORD):
-        child = place.started("-j", jobs)
+        child = place.started(*KEEPS, "-j", jobs)
         time.sleep(0.3)
         expect("it ended meanwhile", None, child.poll())
         check(not later(place, readers(0), header(0)), "a command ran without the record")
@@ -349,7 +345,7 @@ def refused_while_locked(place: Place, jobs: str) -> None:
     before = (place.folder / RECORD).read_bytes()
     manifest_is_broken(place.folder)
     with locked(place.folder / RECORD):
-        child = place.started("-j", jobs)
+        child = place.started(*KEEPS, "-j", jobs)
         time.sleep(0.2)
     said = child.communicate(timeout=programs.SECONDS)[0].decode()
     expect("what it said", REFUSED.errors, said)
@@ -405,7 +401,7 @@ def later(place: Place, names: Set[str], than: str) -> Set[str]:
 
 def killed_at(place: Place, jobs: str, seconds: float) -> None:
     """Starts a build, and kills it and its commands after some time."""
-    child = place.started("-j", jobs)
+    child = place.started(*KEEPS, "-j", jobs)
     time.sleep(seconds)
     with contextlib.suppress(ProcessLookupError):
         os.killpg(child.pid, signal.SIGKILL)
@@ -445,7 +441,7 @@ def killed_before_the_record_is_read(place: Place, jobs: str) -> None:
 def output_closed(place: Place, jobs: str) -> None:
     """Everything is built if standard output is closed, and the status is 1."""
     touched(place.folder, header(0))
-    done = programs.run(["sh", "-c", '"$0" "$@" >&-', place.builder, "-j", jobs], place.folder)
+    done = programs.run(["sh", "-c", '"$0" "$@" >&-', place.builder, *KEEPS, "-j", jobs], place.folder)
     expect("said", (LOST_OUTPUT, 1), (done.stderr.decode(), done.returncode))
     expect("old outputs", [], sorted(readers(0) - later(place, readers(0), header(0))))
     settled(place, "-j", jobs)

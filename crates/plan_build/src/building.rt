@@ -163,6 +163,9 @@ impl<
             self.parker,
             printer,
         );
+        if done.is_ok() && !line.keeps_depfiles() {
+            self.world.remove_depfiles();
+        }
         (done, tally_of(printer.format.counts()))
     }
 

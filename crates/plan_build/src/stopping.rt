@@ -198,7 +198,7 @@ pub fn stop_at<R: Print + Clock + AllocGlobal, E: Print>(
     }
 }
 
-/// Checks whether a debugging mode is one that this program has: it explains, and keeps all depfiles anyway.
+/// Checks whether a debugging mode is one that this program has.
 fn has_mode(mode: &[u8]) -> bool {
     (mode == b"explain".as_slice()) | (mode == b"keepdepfile".as_slice())
 }

@@ -22,7 +22,8 @@ use Rattle.plan_graph.specs.Graph.{IsGraph, all_waits, outputs_of, producer_from
 use Rattle.plan_graph.specs.declared.further_waits.Wait.{Wait}
 use Rattle.plan_graph.specs.declared.graph_data.Graph.{Graph}
 use Rattle.plan_lanes.specs.Journals.{Rule}
-use Rattle.plan_commands.specs.Recorded.{AreRecalled, AreRecalledBetween, AreRecorded, AreSome, DependsOn, IsMadeElsewhere, IsMadeIn, IsNeeded, IsOrderOnly, IsRecalled, IsRecalledFrom, IsRecorded, IsWaitOf, MayLeave, MayLeaveIn, NamesAmong, NamesOutput, directly, through, own_paths, paths_for}
+use Rattle.plan_lanes.specs.Recalled.{AreAmong, RecallsAmong}
+use Rattle.plan_commands.specs.Recorded.{AreRecalled, AreRecalledBetween, AreRecorded, AreSome, DependsOn, IsMadeElsewhere, IsMadeIn, IsNeeded, IsOrderOnly, IsRecalled, IsRecalledFrom, IsRecorded, IsWaitOf, MayLeave, MayLeaveIn, NamesAmong, NamesOutput, ReadsAmong, directly, through, name_of, own_paths, paths_for}
 
 -- ---- makers
 
@@ -180,6 +181,29 @@ pub halves_recalled : (rule : Rule) (edges : List Edge) (half count : ℕ) (xs y
     → all ≡ xs ++ ys → half ≤ count → count ≡ length edges → AreRecalled rule edges all
 halves_recalled rule edges half count xs ys all h k is order every =
     subst (AreRecalled rule edges) (sym is) (all_recalled rule edges count (xs ++ ys) every (both_recalled rule edges 0 half count xs ys (omega arith) order h k))
+
+-- ---- the paths of a depfile and those of a start entry
+
+contains_either : (xs ys : List Text) (x : Text) → Contains (xs ++ ys) x → Contains xs x ⊎ Contains ys x
+contains_either xs ys x i =
+    All-contains (λ q. Contains xs q ⊎ Contains ys q) (xs ++ ys) x
+    (All-append (λ q. Contains xs q ⊎ Contains ys q) xs ys
+    (All-weaker (Contains xs) (λ q. Contains xs q ⊎ Contains ys q) (λ q k. inl k) xs (All-contains_itself xs))
+    (All-weaker (Contains ys) (λ q. Contains xs q ⊎ Contains ys q) (λ q k. inr k) ys (All-contains_itself ys))) i
+
+both_among : (wanted xs ys us vs : List Text) → AreAmong wanted xs us → AreAmong wanted ys vs → AreAmong wanted (xs ++ ys) (us ++ vs)
+both_among wanted xs ys us vs h k = record {
+  some = λ x i. elim (contains_either us vs x i) [ inl j ↦ Contains-append_left xs ys x (h.some x j) | inr j ↦ Contains-append_right xs ys x (k.some x j) ];
+  all = λ x i w. elim (contains_either xs ys x i) [ inl j ↦ Contains-append_left us vs x (h.all x j w) | inr j ↦ Contains-append_right us vs x (k.all x j w) ];
+}
+
+pub names_read : (rule : Rule) (wanted : List Text) (e : Edge) (found : List Text) → ReadsAmong rule wanted e found → NamesAmong rule wanted e found
+names_read rule wanted e found h = (h.0, inr (inl h.1), h.2)
+
+pub names_both : (rule : Rule) (wanted : List Text) (e : Edge) (named kept found : List Text) → ReadsAmong rule wanted e named → RecallsAmong rule wanted (name_of e) kept → found ≡ named ++ kept
+    → NamesAmong rule wanted e found
+names_both rule wanted e named kept found h k same =
+    (h.0 ++ k.0, inr (inr (h.0, k.0, h.1, k.1, refl)), subst (λ (l : List Text). AreAmong wanted (h.0 ++ k.0) l) (sym same) (both_among wanted h.0 k.0 named kept h.2 k.2))
 
 -- The paths of an entry that are outputs are all that an edge may need.
 recorded_of : (rule : Rule) (edges : List Edge) (e : ℕ) (edge : Edge) (paths : List Text) → ((edge.depfile ≡ []) × (paths ≡ [])) ⊎ NamesAmong rule (flat_map outputs_of edges) edge paths → IsRecorded rule edges e edge paths

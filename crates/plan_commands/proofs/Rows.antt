@@ -6,7 +6,7 @@ use Rattle.plan_image.specs.declared.image.EdgeCode.TheVariants.{Own}
 use Rattle.plan_image.specs.declared.image.Parts.{Parts}
 use Rattle.plan_image.specs.declared.image.Sort.TheVariants as sort
 use Rattle.plan_machine.specs.declared.event.reply.Reply.TheVariants as reply
-use Rattle.plan_verify.specs.Turn.{Keep, Run, Stat}
+use Rattle.plan_verify.specs.Turn.{Deps, Keep, Run, Stat}
 use Rattle.plan_lanes.specs.Journals.{Rule}
 use Rattle.plan_commands.specs.declared.building.Done.TheVariants as done
 use Rattle.plan_commands.specs.Building.{exit_status, maker_of, most_rounds}
@@ -63,6 +63,10 @@ dry_entry_is_kept allowed output command = refl
 -- Files are asked by the rule of the world.
 dry_stamp : (allowed : Rule) (path : List ℕ) → dry_rule allowed 1 (Stat path) reply.Fault ≡ allowed 1 (Stat path) reply.Fault
 dry_stamp allowed path = refl
+
+-- the depfile of a command that a dry build lists
+dry_depfile_is_missing : (allowed : Rule) (path : List ℕ) → dry_rule allowed 8 (Deps path) reply.Nothing
+dry_depfile_is_missing allowed path = inl refl
 
 -- ---- what the record adds
 

@@ -13,12 +13,13 @@ use Rattle.plan_commands.specs.Showing.{Shown}
 use Rattle.plan_commands.specs.Building.{Asked, IsRead, IsUpToDate, Remakes, MakerFails, RunsTargets, RoundStops, LastRunStops}
 
 -- The rule of a world in which no command runs. Replies about files and the record are allowed by another rule. Each
--- command ends with status 0, each depfile is missing, and each entry is kept.
+-- command ends with status 0 and leaves no depfile, and each entry is kept. Depfiles are read only before the run, under
+-- the number 0.
 abbrev pub dry_rule : Rule → Rule
 dry_rule rule number (Stat path) r = rule number (Stat path) r
 dry_rule rule number (Recall output) r = rule number (Recall output) r
 dry_rule rule number (Run command outputs) r = r ≡ reply.Exit 0
-dry_rule rule number (Deps path) r = r ≡ reply.Nothing
+dry_rule rule number (Deps path) r = (r ≡ reply.Nothing) ⊎ ((number ≡ 0) × rule number (Deps path) r)
 dry_rule rule number (Keep output command basis paths) r = r ≡ reply.Kept
 
 -- The manifest is up to date, and its image was run for the targets.

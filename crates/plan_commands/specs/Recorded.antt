@@ -35,9 +35,14 @@ paths_in r = []
 abbrev pub MayRead : Rule → Text → (paths : List Text) → Type 0
 MayRead rule path paths = (n : ℕ) × (r : Reply) × rule n (Deps path) r × (paths_in r ≡ paths)
 
--- The paths that the last command of an edge read, as far as the world tells: by an entry, or by its depfile.
+-- The paths that a depfile names, and then those of a start entry.
+abbrev pub MayReadBegun : Rule → Edge → (paths : List Text) → Type 0
+MayReadBegun rule e paths = (named kept : List Text) × MayRead rule e.depfile named × MayRecall rule (name_of e) kept × (paths ≡ named ++ kept)
+
+-- The paths that the last commands of an edge read, as far as the world tells: by an entry, by its depfile, or by both if
+-- it is a start entry.
 abbrev pub MayName : Rule → Edge → (paths : List Text) → Type 0
-MayName rule e paths = MayRecall rule (name_of e) paths ⊎ MayRead rule e.depfile paths
+MayName rule e paths = MayRecall rule (name_of e) paths ⊎ MayRead rule e.depfile paths ⊎ MayReadBegun rule e paths
 
 -- Edge e waits for edge w, directly or through other edges.
 pub data DependsOn (waits : List (List ℕ)) (e : ℕ) : ℕ → Type 0 where
@@ -114,6 +119,10 @@ pub record AreRecorded (rule : Rule) (m : Manifest) (additions : List Addition) 
 -- The paths that the last command of an edge read, of those that are wanted.
 abbrev pub NamesAmong : Rule → (wanted : List Text) → Edge → (found : List Text) → Type 0
 NamesAmong rule wanted e found = (paths : List Text) × MayName rule e paths × AreAmong wanted paths found
+
+-- The paths that the depfile of an edge names, of those that are wanted.
+abbrev pub ReadsAmong : Rule → (wanted : List Text) → Edge → (found : List Text) → Type 0
+ReadsAmong rule wanted e found = (paths : List Text) × MayRead rule e.depfile paths × AreAmong wanted paths found
 
 -- An addition of order-only inputs to one of the first n edges.
 abbrev pub IsRecalled : ℕ → Addition → Type 0

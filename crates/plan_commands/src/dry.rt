@@ -30,9 +30,9 @@ pub struct Listed {
     pub restat: u64,
 }
 
-/// A world that runs no commands and keeps no entries. It asks another world for files and the record. It replies to
-/// each command that it ended with status 0, to each read of a depfile that it is missing, and to each entry that it is
-/// kept.
+/// A world that runs no commands and keeps no entries. It asks another world for files and the record, and for the
+/// depfiles that are read before a run. It replies to each command that it ended with status 0, to each read of its
+/// depfile that it is missing, and to each entry that it is kept.
 #[derive(Drop)]
 struct DryWorld<'a, R, W> {
     rt: &'a R,
@@ -79,6 +79,15 @@ impl<R: Wait, W: World> World for DryWorld<'_, R, W> {
         self.world.recorded_among(alloc, output, wanted)
     }
 
+    fn begun_among(
+        &self,
+        alloc: Global,
+        output: &[u8],
+        wanted: &PathFilter,
+    ) -> Result<Option<RowList<u8>>, AllocError> {
+        self.world.begun_among(alloc, output, wanted)
+    }
+
     fn record_stamp(&self) -> Option<u64> {
         self.world.record_stamp()
     }
@@ -120,7 +129,11 @@ impl<R: Wait, W: World> World for DryWorld<'_, R, W> {
         Ok(Reply::Exit(0))
     }
 
-    fn read_depfile(&self, _number: u64, _path: &[u8]) -> Result<Reply, AllocError> {
+    /// No edge asks under the number 0.
+    fn read_depfile(&self, number: u64, path: &[u8]) -> Result<Reply, AllocError> {
+        if number == 0 {
+            return self.world.read_depfile(number, path);
+        }
         Ok(Reply::Nothing)
     }
 

@@ -25,6 +25,7 @@ mod image_fault;
 mod images;
 mod kept;
 mod laws;
+mod others;
 mod printed_runs;
 mod recorded;
 mod recorded_image;

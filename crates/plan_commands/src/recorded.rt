@@ -4,7 +4,7 @@ ghost use Rattle.std.specs.Prelude.{◌≡◌, ◌⊎◌, ◌<◌, ◌≤◌, �
 ghost use Rattle.plan_graph.specs.Graph.{IsGraph, max_edges, outputs_of};
 ghost use Rattle.plan_depfile.specs.Depfile.{depfile_of};
 ghost use Rattle.plan_lanes.specs.Recalled.{AreAmong};
-ghost use Rattle.plan_commands.specs.Recorded.{AreRecalled, AreRecalledBetween, AreRecorded, AreSome, DependsOn, IsMadeIn, IsNeeded, IsRecalled, IsWaitOf, MayLeaveIn, NamesAmong, name_of, ok_or_none, own_paths, paths_for, paths_in};
+ghost use Rattle.plan_commands.specs.Recorded.{AreRecalled, AreRecalledBetween, AreRecorded, AreSome, DependsOn, IsMadeIn, IsNeeded, IsRecalled, IsWaitOf, MayLeaveIn, NamesAmong, ReadsAmong, name_of, ok_or_none, own_paths, paths_for, paths_in};
 
 use crate::depfiles::check_unrecorded;
 use plan_graph::{Graph, Wait, cycle_with};
@@ -16,7 +16,7 @@ use std::alloc::{AllocError, Global};
 use std::thread::{Threads, join};
 
 /// Adds paths to a filter.
-fn add_paths<'a>(filter: &mut PathFilter, paths: &PathRange<'a>)
+pub(crate) fn add_paths<'a>(filter: &mut PathFilter, paths: &PathRange<'a>)
     ensures { filter.new ≡ filter.old ++ paths.now }
 {
     for place in 0..paths.len() {
@@ -81,7 +81,7 @@ fn depfile_paths<'a, W: World>(
     filter: &PathFilter,
     edge: &EdgeRef<'a>,
 ) -> Result<RowList<u8>, AllocError>
-    ensures { IfOk result (λ found. NamesAmong W.allows filter.now edge.now found) }
+    ensures { IfOk result (λ found. ReadsAmong W.allows filter.now edge.now found) }
 {
     let path = edge.depfile().join(alloc)?;
     let reply = world.read_depfile(0, path.as_slice())?;
@@ -89,8 +89,40 @@ fn depfile_paths<'a, W: World>(
     named_in(alloc, reply, filter)
 }
 
-/// Returns the paths that the last command of an edge read and that may be outputs: by its entry, or by its depfile if
-/// there is no entry of a command that ended, or one without paths. Returns none for an edge without a depfile.
+/// Returns the paths of two lists, those of the first one first.
+fn both_paths(mut first: RowList<u8>, second: &RowList<u8>) -> Result<RowList<u8>, AllocError>
+    ensures { IfOk result (λ all. all ≡ first ++ second.now) }
+{
+    for number in 0..second.len() {
+        first.push(second.row(number))?;
+    }
+    Ok(first)
+}
+
+/// Returns the paths that the depfile of an edge names and those that its start entry keeps, if they may be outputs. The
+/// edge has no entry with paths, unless it is a start entry.
+#[tactic(auto, using(crate::proofs::RecordedLemmas::names_read, crate::proofs::RecordedLemmas::names_both))]
+fn unrecorded_paths<'a, W: World>(
+    alloc: Global,
+    world: &W,
+    filter: &PathFilter,
+    edge: &EdgeRef<'a>,
+) -> Result<RowList<u8>, AllocError>
+    ensures { IfOk result (λ found. NamesAmong W.allows filter.now edge.now found) }
+{
+    let named = depfile_paths(alloc, world, filter, edge)?;
+    match world.begun_among(alloc, first_output(edge), filter)? {
+        Some(kept) => {
+            let all = both_paths(named, &kept)?;
+            Ok(all)
+        }
+        None => Ok(named),
+    }
+}
+
+/// Returns the paths that the last commands of an edge read and that may be outputs: by its entry, or by its depfile and
+/// its start entry if there is no entry of a command that ended, or one without paths. Returns none for an edge without
+/// a depfile.
 fn recorded_paths<'a, W: World>(
     alloc: Global,
     world: &W,
@@ -104,7 +136,7 @@ fn recorded_paths<'a, W: World>(
     }
     match world.recorded_among(alloc, first_output(edge), filter)? {
         Some(paths) => Ok(paths),
-        None => depfile_paths(alloc, world, filter, edge),
+        None => unrecorded_paths(alloc, world, filter, edge),
     }
 }
 
@@ -156,7 +188,7 @@ fn recalled_between<W: World>(
     Ok(additions)
 }
 
-/// Returns the recorded paths of all edges that may be outputs, as order-only inputs.
+/// Returns the recorded paths of all edges that may be outputs, as order-only inputs. The world takes the set of outputs.
 pub(crate) fn recalled_paths<W: World>(
     alloc: Global,
     world: &W,
@@ -167,6 +199,7 @@ pub(crate) fn recalled_paths<W: World>(
 {
     let filter = filter_of(alloc, edges)?;
     let additions = recalled_between(alloc, world, edges, &filter, 0, edges.len())?;
+    world.take_outputs(filter);
     Ok(additions)
 }
 
@@ -220,6 +253,7 @@ pub(crate) fn recalled_by_two<R: Threads, W: World + Send + Sync>(
     let filter = filter_of(alloc, edges)?;
     let count = edges.len();
     let (first, second) = recalled_apart(rt, alloc, world, edges, &filter, count / 2, count);
+    world.take_outputs(filter);
     match second {
         Ok(second) => {
             let all = joined(first?, second)?;

@@ -15,6 +15,7 @@ ghost use Rattle.plan_printing.specs.Faults as faults;
 
 use crate::compiling::{FEW_EDGES, graph_and_names, graph_of, image_by, image_with};
 use crate::foreign::{check_by_four, check_entries};
+use crate::others::tell_others;
 use crate::recorded::{needed_inputs, recalled_by_two, recalled_paths};
 use plan_compile::{EdgeNames, OutOfDateRule, collect_names};
 use plan_graph::{Graph, MAX_EDGES};
@@ -57,8 +58,20 @@ fn recalled_entries<W: World>(
     requires { length edges.now ≤ max_edges }
     ensures { IfOk result (λ a. AreRecalled W.allows edges.now a.items) }
 {
+    tell_others(alloc, world, edges)?;
     check_entries(alloc, world, edges)?;
     recalled_paths(alloc, world, edges)
+}
+
+/// Tells a world which files of a manifest stay, and ends the entries that don't count, by four threads.
+fn tell_and_check<R: Threads + Sync, W: World + Send + Sync>(
+    rt: &R,
+    alloc: Global,
+    world: &W,
+    edges: &EdgeList,
+) -> Result<(), AllocError> {
+    tell_others(alloc, world, edges)?;
+    check_by_four(rt, alloc, world, edges)
 }
 
 /// Returns the recorded paths of edges like `recalled_entries`, while other threads check the entries.
@@ -77,7 +90,7 @@ fn recalled_and_checked<R: Threads + Sync, W: World + Send + Sync>(
             requires { IsSync R.row × IsSend W.row × IsSync W.row × (length edges.now ≤ max_edges) }
             ensures { IfOk result (λ a. AreRecalled W.allows edges.entry.now a.items) }
         { recalled_by_two(rt, alloc, world, edges) },
-        || check_by_four(rt, alloc, world, edges),
+        || tell_and_check(rt, alloc, world, edges),
     );
     match checked {
         Ok(()) => recalled,

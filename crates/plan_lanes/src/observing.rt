@@ -62,6 +62,27 @@ impl<W: World> World for Observing<'_, W> {
         self.world.recorded_among(alloc, output, wanted)
     }
 
+    fn begun_among(
+        &self,
+        alloc: Global,
+        output: &[u8],
+        wanted: &PathFilter,
+    ) -> Result<Option<RowList<u8>>, AllocError> {
+        self.world.begun_among(alloc, output, wanted)
+    }
+
+    fn take_outputs(&self, outputs: PathFilter) {
+        self.world.take_outputs(outputs);
+    }
+
+    fn take_others(&self, others: Option<PathFilter>) {
+        self.world.take_others(others);
+    }
+
+    fn remove_depfiles(&self) {
+        self.world.remove_depfiles();
+    }
+
     fn record_stamp(&self) -> Option<u64> {
         self.world.record_stamp()
     }

@@ -75,6 +75,36 @@ pub trait World {
         replied_among(alloc, &reply, wanted)
     }
 
+    /// Returns the paths that the start entry of an output keeps, except those that are not in a set: what the last
+    /// command of its edge read that succeeded, before another one began that didn't. The set may say too often that it
+    /// has a path. Returns None if the last entry of the output is no start entry, or keeps no such paths. A world
+    /// without start entries has none.
+    ///
+    /// # Errors
+    /// `AllocError` if memory runs out.
+    fn begun_among(
+        &self,
+        _alloc: Global,
+        _output: &[u8],
+        _wanted: &PathFilter,
+    ) -> Result<Option<RowList<u8>>, AllocError>
+        ensures { IfOk result (λ found. IfSome found (λ paths. RecallsAmong Self.allows _wanted.now _output.now paths)) }
+    {
+        Ok(None)
+    }
+
+    /// Takes the set of the paths that edges of the manifest make. Start entries keep such paths. The set may say too
+    /// often that it has a path. A world without start entries does nothing.
+    fn take_outputs(&self, _outputs: PathFilter) {}
+
+    /// Takes the set of further paths of the manifest whose files stay when depfiles are removed. The set may say too
+    /// often that it has a path. Without a set, all files stay. A world that removes no files does nothing.
+    fn take_others(&self, _others: Option<PathFilter>) {}
+
+    /// Removes the depfiles that commands of this build wrote and that it has read, except files with a path in one of
+    /// the sets that it took last. Called when the build has ended. A world that removes no files does nothing.
+    fn remove_depfiles(&self) {}
+
     /// Returns when the record was last written before this build opened it: the stamp of its file. Returns None if
     /// there was no record, or if this isn't known.
     fn record_stamp(&self) -> Option<u64> {

@@ -57,6 +57,15 @@ is_explain other = false
 abbrev pub is_explained : List Argument → Bool
 is_explained arguments = list_any is_explain arguments
 
+-- Whether an argument is `-d keepdepfile`.
+abbrev pub is_keepdepfile : Argument → Bool
+is_keepdepfile (argument.Setting setting.Mode value) = bytes_eq value (codes "keepdepfile")
+is_keepdepfile other = false
+
+-- Whether one of the arguments is `-d keepdepfile`.
+abbrev pub keeps_depfiles : List Argument → Bool
+keeps_depfiles arguments = list_any is_keepdepfile arguments
+
 -- Whether an argument is `-n`.
 abbrev pub is_dry : Argument → Bool
 is_dry (argument.Flag flag.DryRun) = true

@@ -154,6 +154,28 @@ fn has_explain(arguments: &[Argument]) -> bool
     false
 }
 
+/// Checks whether an argument is `-d keepdepfile`.
+fn is_keepdepfile(argument: &Argument) -> bool
+    ensures { result ≡ defined.is_keepdepfile argument.now }
+{
+    match argument {
+        Argument::Setting(Setting::Mode, value) => value.as_slice() == b"keepdepfile".as_slice(),
+        _ => false,
+    }
+}
+
+/// Checks whether one of these arguments is `-d keepdepfile`.
+fn has_keepdepfile(arguments: &[Argument]) -> bool
+    ensures { result ≡ defined.keeps_depfiles arguments.now }
+{
+    for at in 0..arguments.len() {
+        if is_keepdepfile(&arguments[at]) {
+            return true;
+        }
+    }
+    false
+}
+
 /// Checks whether an argument is `-n`.
 fn is_dry(argument: &Argument) -> bool
     ensures { result ≡ defined.is_dry argument.now }
@@ -245,6 +267,13 @@ impl CommandLine {
         ensures { result ≡ defined.is_explained self.now }
     {
         has_explain(self.arguments())
+    }
+
+    /// Checks whether `-d keepdepfile` is there. Then depfiles stay when they were read.
+    pub fn keeps_depfiles(&self) -> bool
+        ensures { result ≡ defined.keeps_depfiles self.now }
+    {
+        has_keepdepfile(self.arguments())
     }
 
     /// Checks whether `-n` is there. No command may run then, and nothing may be changed.

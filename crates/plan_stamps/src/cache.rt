@@ -204,6 +204,27 @@ impl<R: Wait, W: World> World for StampCache<'_, R, W> {
         self.inner.world.recorded_among(alloc, output, wanted)
     }
 
+    fn begun_among(
+        &self,
+        alloc: Global,
+        output: &[u8],
+        wanted: &PathFilter,
+    ) -> Result<Option<RowList<u8>>, AllocError> {
+        self.inner.world.begun_among(alloc, output, wanted)
+    }
+
+    fn take_outputs(&self, outputs: PathFilter) {
+        self.inner.world.take_outputs(outputs);
+    }
+
+    fn take_others(&self, others: Option<PathFilter>) {
+        self.inner.world.take_others(others);
+    }
+
+    fn remove_depfiles(&self) {
+        self.inner.world.remove_depfiles();
+    }
+
     fn record_stamp(&self) -> Option<u64> {
         self.inner.world.record_stamp()
     }

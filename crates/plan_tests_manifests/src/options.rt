@@ -146,3 +146,15 @@ fn explained(rt: HostRuntime) -> Result<(), Fail> {
     assert!(rt; !value_of(CommandLine::read(rt.alloc(), &[b"-w", b"explain"]))?.is_explained());
     Ok(())
 }
+
+#[test]
+fn depfiles_kept(rt: HostRuntime) -> Result<(), Fail> {
+    let words: [&[u8]; 4] = [b"-dkeepdepfile", b"a", b"-d", b"explain"];
+    assert!(rt; value_of(CommandLine::read(rt.alloc(), &words))?.keeps_depfiles());
+    assert!(rt; value_of(CommandLine::read(rt.alloc(), &words))?.is_explained());
+    assert!(rt; !value_of(CommandLine::read(rt.alloc(), &[b"-d", b"explain"]))?.keeps_depfiles());
+    assert!(rt;
+        !value_of(CommandLine::read(rt.alloc(), &[b"-w", b"keepdepfile"]))?.keeps_depfiles()
+    );
+    Ok(())
+}

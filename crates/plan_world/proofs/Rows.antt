@@ -9,7 +9,7 @@ use Rattle.plan_verify.specs.Turn.{Stat, Run, Keep}
 use Rattle.plan_machine.specs.Step.{answer_of}
 use Rattle.plan_machine.specs.declared.event.reply.Reply.TheVariants.{Stamp, Exit, Signal, Kept}
 use Rattle.plan_world.specs.Askable.{is_name}
-use Rattle.plan_world.specs.StartRecorded.{begun, begun_with, missing_path, started}
+use Rattle.plan_world.specs.StartRecorded.{begun, begun_keeping, begun_with, ended, first_named, missing_path, paths_read}
 use Rattle.plan_world.specs.Recording.{EndsWith, edge_entry, may_begin}
 use Rattle.plan_world.specs.NinjaLog.{log_lines}
 use Rattle.plan_world.specs.Rewriting.{restated}
@@ -111,17 +111,31 @@ no_output_is_no_record = refl
 
 -- ---- the start entries of an edge
 
--- the edge that makes `p` and `q`, if neither was made before
-begins_twice : started [] ((112 ∷ []) ∷ (113 ∷ []) ∷ []) ≡ begun_with (112 ∷ []) (113 ∷ []) ∷ begun (112 ∷ []) ∷ []
-begins_twice = refl
-
 -- an edge that makes `q`, which the edge of `p` made before: its entry ends
-other_edge_ends : started (begun_with (112 ∷ []) (113 ∷ []) ∷ begun (112 ∷ []) ∷ edge_entry (112 ∷ []) (116 ∷ []) 7 [] ∷ []) ((113 ∷ []) ∷ []) ≡ begun (112 ∷ []) ∷ begun (113 ∷ []) ∷ []
+other_edge_ends : ended (begun_with (112 ∷ []) (113 ∷ []) ∷ begun (112 ∷ []) ∷ edge_entry (112 ∷ []) (116 ∷ []) 7 [] ∷ []) (113 ∷ []) ((113 ∷ []) ∷ []) ≡ (112 ∷ []) ∷ []
 other_edge_ends = refl
 
 -- the edge of `p` again
-same_edge_begins : started (begun_with (112 ∷ []) (113 ∷ []) ∷ edge_entry (112 ∷ []) (116 ∷ []) 7 [] ∷ []) ((112 ∷ []) ∷ (113 ∷ []) ∷ []) ≡ begun_with (112 ∷ []) (113 ∷ []) ∷ begun (112 ∷ []) ∷ []
+same_edge_begins : ended (begun_with (112 ∷ []) (113 ∷ []) ∷ edge_entry (112 ∷ []) (116 ∷ []) 7 [] ∷ []) (112 ∷ []) ((112 ∷ []) ∷ (113 ∷ []) ∷ []) ≡ []
 same_edge_begins = refl
+
+-- what the last command of `p` read, by its entry
+entry_is_read : paths_read (Some (edge_entry (112 ∷ []) (116 ∷ []) 7 ((104 ∷ []) ∷ []))) ≡ (104 ∷ []) ∷ []
+entry_is_read = refl
+
+-- and by the start entry that keeps it
+start_keeps : paths_read (Some (begun_keeping (112 ∷ []) ((104 ∷ []) ∷ []))) ≡ (104 ∷ []) ∷ []
+start_keeps = refl
+
+begun_keeps_nothing : paths_read (Some (begun_keeping (112 ∷ []) [])) ≡ []
+begun_keeps_nothing = refl
+
+nothing_is_begun : begun_keeping (112 ∷ []) [] ≡ begun (112 ∷ [])
+nothing_is_begun = refl
+
+-- a start entry that keeps paths names its own output, so no other edge ends
+kept_names_itself : first_named (begun_keeping (112 ∷ []) ((104 ∷ []) ∷ [])) ≡ Some (112 ∷ [])
+kept_names_itself = refl
 
 -- the lines of `a` and `b` in ninja's log, each between "0", a tab and a tab, "0", a line feed
 two_lines : log_lines (48 ∷ 9 ∷ []) (9 ∷ 48 ∷ 10 ∷ []) ((97 ∷ []) ∷ (98 ∷ []) ∷ []) ≡ 48 ∷ 9 ∷ 97 ∷ 9 ∷ 48 ∷ 10 ∷ 48 ∷ 9 ∷ 98 ∷ 9 ∷ 48 ∷ 10 ∷ []

@@ -2,8 +2,8 @@
 use Rattle.std.specs.Prelude.{◌≡◌, ◌==◌, ◌&&◌, ◌||◌, get_or, ◌+◌, ◌*◌, nat_le, nat_lt, ℕ, Bool, List, [], ◌∷◌, ◌++◌, length, Option}
 use Rattle.std.specs.Io.KnownBytes.{Appends}
 use Rattle.std.specs.List.{flat_map}
-use Rattle.plan_record.specs.Entries.{EntryData, IsGoodFront, spelling}
-use Rattle.plan_world.specs.StartRecorded.{started}
+use Rattle.plan_record.specs.Entries.{EntryData, HasSpelling, IsGoodFront, spelling}
+use Rattle.plan_world.specs.StartRecorded.{AreStarted, IsBegun}
 
 -- the entry of an edge that ran: its first output, its command, the greatest stamp that it read, its dependencies
 abbrev pub edge_entry : (output command : List ℕ) (basis : ℕ) (paths : List (List ℕ)) → EntryData
@@ -41,12 +41,24 @@ abbrev pub IsWritten : {F : Type 0} → (contents : F → Option (List ℕ)) →
 IsWritten {F} contents file bytes = (before : F) × Appends (contents before) (contents file) bytes
 
 -- The command of an edge that makes these files may begin: after the old entries come maybe those of other builders, and
--- then the start entries. The last operation on the file appended the latter.
-pub record Begins {F : Type 0} (contents : F → Option (List ℕ)) (old new : Recording F) (outputs : List (List ℕ)) : Type 0 where
+-- then the start entries, which keep the paths that are wanted. The last operation on the file appended the latter.
+pub record Begins {F : Type 0} (contents : F → Option (List ℕ)) (wanted : List (List ℕ)) (old new : Recording F) (outputs : List (List ℕ)) : Type 0 where
   pub read : List EntryData
   pub grows : Grows old.entries read
-  pub entries : new.entries ≡ read ++ started read outputs
-  pub written : IsWritten contents new.file (flat_map spelling (started read outputs))
+  pub starts : List EntryData
+  pub started : AreStarted wanted read outputs starts
+  pub entries : new.entries ≡ read ++ starts
+  pub written : IsWritten contents new.file (flat_map spelling starts)
+
+-- The entry of an output ends: after the old entries come maybe those of other builders, and then a start entry, which
+-- keeps the paths that are wanted. The last operation on the file appended it.
+pub record Ends {F : Type 0} (contents : F → Option (List ℕ)) (wanted : List (List ℕ)) (old new : Recording F) (output : List ℕ) : Type 0 where
+  pub start : EntryData
+  pub begun : IsBegun wanted old.entries start
+  pub named : start.output ≡ output
+  pub within : HasSpelling start
+  pub entries : EndsWith old.entries new.entries start
+  pub written : IsWritten contents new.file (spelling start)
 
 -- the length of a path in an entry
 abbrev pub is_path_len : ℕ → Bool

@@ -89,14 +89,15 @@ pub(crate) fn read_depfile<R: Files + AllocGlobal>(rt: &R, path: &[u8]) -> Resul
     }
 }
 
-/// Checks whether the depfile in a reply is missing, or names nothing.
-pub(crate) fn names_nothing(alloc: Global, reply: &Reply) -> Result<bool, AllocError> {
+/// Returns how many paths the depfile in a reply names. A missing one names none. Returns None if it can't be read or is
+/// malformed.
+pub(crate) fn count_named(alloc: Global, reply: &Reply) -> Result<Option<u32>, AllocError> {
     match reply {
-        Reply::Nothing => Ok(true),
+        Reply::Nothing => Ok(Some(0)),
         Reply::Bytes(depfile) => match depfile.result(alloc)? {
-            Ok(paths) => Ok(paths.len() == 0),
-            Err(_) => Ok(false),
+            Ok(paths) => Ok(Some(paths.len())),
+            Err(_) => Ok(None),
         },
-        _ => Ok(false),
+        _ => Ok(None),
     }
 }

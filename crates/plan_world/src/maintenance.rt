@@ -4,7 +4,7 @@ use crate::builder_lock::{BuilderLock, SharedFile, is_unwritable, take_lock};
 use crate::fault::{DeviceFault, OpenFault};
 use crate::reasons::say;
 use crate::record_file::{RecordFile, open_file, open_record, read_as_is};
-use crate::record_sink::entry_among;
+use crate::record_sink::read_among;
 use crate::rewriting::{compact, restate};
 use plan_text::{PathFilter, RowList};
 use std::alloc::{AllocError, Global};
@@ -199,7 +199,7 @@ fn push_all(paths: &RowList<u8>, all: &mut RowList<u8>) -> Result<(), AllocError
     Ok(())
 }
 
-/// Appends those paths of the last entry of an output that may be in a set.
+/// Appends those paths of the last entry of an output that may be in a set. A start entry has those that it keeps.
 fn push_recorded<F>(
     alloc: Global,
     file: &RecordFile<F>,
@@ -210,10 +210,8 @@ fn push_recorded<F>(
     let Some(entry) = file.last(alloc, output)? else {
         return Ok(());
     };
-    if let Some(paths) = entry_among(alloc, &entry, wanted)? {
-        push_all(&paths, found)?;
-    }
-    Ok(())
+    let paths = read_among(alloc, &entry, wanted)?;
+    Ok(push_all(&paths, found)?)
 }
 
 /// Returns those paths of the last entries of these outputs in a record that may be in a set.
@@ -250,8 +248,8 @@ where
 }
 
 /// Returns those paths that may be in a set and that the last commands of the edges with these first outputs read: the
-/// paths of their entries, in order. The set may say too often that it has a path. A command that failed or didn't end
-/// has no paths. If the record doesn't exist, returns no paths, and creates no record.
+/// paths of their entries, in order. The set may say too often that it has a path. If a command failed or didn't end,
+/// these are the paths that its start entry keeps. If the record doesn't exist, returns no paths, and creates no record.
 ///
 /// Waits like `recorded_outputs`.
 ///

@@ -3,20 +3,22 @@
 ghost use Rattle.std.specs.Prelude.{◌≡◌, ◌+◌, ◌*◌, ◌++◌, ◌∷◌, [], false, true, IfOk, IfSome, OnOk, OnErr, get_or, map};
 ghost use Rattle.std.specs.Io.KnownBytes.{Appends};
 ghost use Rattle.std.specs.List.{flat_map};
+ghost use Rattle.plan_record.specs.Among.{AreAmong};
 ghost use Rattle.plan_record.specs.Compaction.{last_entries};
 ghost use Rattle.plan_record.specs.Entries.{HasSpelling, IsGoodFront, last_of, spelling};
-ghost use Rattle.plan_world.specs.StartRecorded.{begun, ended, ended_for, started};
-ghost use Rattle.plan_world.specs.Recording.{Begins, EndsWith, Grows, IsWritten, TakesIn, edge_entry, is_path_len, may_begin};
+ghost use Rattle.plan_world.specs.StartRecorded.{AreBegun, AreStarted, IsBegun, ended, ended_for, paths_read};
+ghost use Rattle.plan_world.specs.Recording.{Begins, Ends, EndsWith, Grows, IsWritten, TakesIn, edge_entry, is_path_len, may_begin};
 ghost use Rattle.plan_world.specs.Rewriting.{has_grown};
 
 use crate::builder_lock::{SharedFile, open_shared};
 use crate::fault::DeviceFault;
 use crate::record_sink::{
-    RecordSink, begun_entry, bytes_of, ended_entry, entry_of, outputs_of, push_all_begun,
+    RecordSink, begun_keeping_entry, bytes_of, entry_of, outputs_of, push_ended, push_others_begun,
+    read_among,
 };
 use crate::stamp::stamp_at;
 use plan_record::{Entry, Record, load, read_entries, spellings};
-use plan_text::RowList;
+use plan_text::{PathFilter, RowList};
 use plan_verify::PathList;
 use std::alloc::Global;
 use std::fs::{self, Metadata, OpenFile};
@@ -268,43 +270,91 @@ impl<F> RecordFile<F> {
         Ok(outputs_of(alloc, &self.entries.last_entries(alloc)?)?)
     }
 
-    /// Appends the start entry that ends the entry of another edge which made this output before, if there is one, to
-    /// other entries.
-    fn push_ended(
+    /// Appends the first output of another edge which made this output before, if there is one, to others.
+    fn push_ended_for(
         &self,
         alloc: Global,
         first: &[u8],
         output: &[u8],
-        entries: &mut Vec<Entry>,
+        outputs: &mut RowList<u8>,
     ) -> Result<(), DeviceFault>
-        ensures { OnOk result (entries.new.items ≡ entries.old.items ++ ended_for self.now.entries first.now output.now) }
+        ensures { OnOk result (outputs.new ≡ outputs.old ++ ended_for self.now.entries first.now output.now) }
     {
-        let Some(last) = self.last(alloc, output)? else {
-            return Ok(());
-        };
-        if let Some(entry) = ended_entry(alloc, first, &last)? {
-            entries.push(entry)?;
+        match self.last(alloc, output)? {
+            Some(last) => push_ended(first, &last, outputs),
+            None => Ok(()),
         }
-        Ok(())
     }
 
-    /// Returns the start entries that end the entries of other edges which made these files before.
-    fn ended(&self, alloc: Global, outputs: &RowList<u8>) -> Result<Vec<Entry>, DeviceFault>
-        ensures { IfOk result (λ entries. entries.items ≡ ended self.now.entries (get_or outputs.now 0 []) outputs.now) }
+    /// Returns the first outputs of other edges which made these files before.
+    fn ended(&self, alloc: Global, outputs: &RowList<u8>) -> Result<RowList<u8>, DeviceFault>
+        ensures { IfOk result (λ ends. ends ≡ ended self.now.entries (get_or outputs.now 0 []) outputs.now) }
+    {
+        let mut ends = RowList::new(alloc);
+        for number in 0..outputs.len() {
+            self.push_ended_for(alloc, outputs.row(0), outputs.row(number), &mut ends)?;
+        }
+        Ok(ends)
+    }
+
+    /// Returns those paths that may be in a set and that the last command of an edge read that succeeded, by the edge's
+    /// first output.
+    fn last_read(
+        &self,
+        alloc: Global,
+        output: &[u8],
+        wanted: &PathFilter,
+    ) -> Result<RowList<u8>, DeviceFault>
+        ensures { IfOk result (λ kept. AreAmong wanted.now (paths_read (last_of output.now self.now.entries)) kept) }
+    {
+        match self.last(alloc, output)? {
+            Some(last) => read_among(alloc, &last, wanted),
+            None => Ok(RowList::new(alloc)),
+        }
+    }
+
+    /// Returns the start entry of a first output. It keeps those paths that the last command of its edge read and that
+    /// may be in a set.
+    #[tactic(auto, using(crate::proofs::RecordingLemmas::begun_of))]
+    fn begun(&self, alloc: Global, output: &[u8], wanted: &PathFilter) -> Result<Entry, DeviceFault>
+        ensures begun { IfOk result (λ x. IsBegun wanted.now self.now.entries x) }
+        ensures output { IfOk result (λ x. x.output ≡ output.now) }
+        ensures within { IfOk result (λ x. HasSpelling x) }
+    {
+        let kept = self.last_read(alloc, output, wanted)?;
+        begun_keeping_entry(alloc, output, &kept)
+    }
+
+    /// Returns the start entries of these first outputs.
+    #[tactic(auto, using(crate::proofs::RecordingLemmas::none_begun, crate::proofs::RecordingLemmas::next_begun, crate::proofs::RecordingLemmas::each_begun))]
+    fn each_begun(
+        &self,
+        alloc: Global,
+        outputs: &RowList<u8>,
+        wanted: &PathFilter,
+    ) -> Result<Vec<Entry>, DeviceFault>
+        ensures { IfOk result (λ entries. AreBegun wanted.now self.now.entries outputs.now entries.items) }
     {
         let mut entries = Vec::new(alloc);
         for number in 0..outputs.len() {
-            self.push_ended(alloc, outputs.row(0), outputs.row(number), &mut entries)?;
+            entries.push(self.begun(alloc, outputs.row(number), wanted)?)?;
         }
         Ok(entries)
     }
 
     /// Returns the start entries for the command of an edge that makes these files.
-    fn started(&self, alloc: Global, outputs: &RowList<u8>) -> Result<Vec<Entry>, DeviceFault>
-        ensures { IfOk result (λ entries. entries.items ≡ started self.now.entries outputs.now) }
+    fn started(
+        &self,
+        alloc: Global,
+        outputs: &RowList<u8>,
+        wanted: &PathFilter,
+    ) -> Result<Vec<Entry>, DeviceFault>
+        ensures { IfOk result (λ entries. AreStarted wanted.now self.now.entries outputs.now entries.items) }
     {
-        let mut entries = self.ended(alloc, outputs)?;
-        push_all_begun(alloc, outputs, &mut entries)?;
+        let ends = self.ended(alloc, outputs)?;
+        let mut entries = self.each_begun(alloc, &ends, wanted)?;
+        push_others_begun(alloc, outputs, &mut entries)?;
+        entries.push(self.begun(alloc, outputs.row(0), wanted)?)?;
         Ok(entries)
     }
 
@@ -483,30 +533,37 @@ impl<F: Read + Write + Seek + OpenFile + SharedFile> RecordFile<F> {
 
     /// Adds the entries that other builders appended meanwhile, and appends the start entries of an edge. The caller
     /// must hold the file's lock.
-    fn begin_last(&mut self, alloc: Global, outputs: &RowList<u8>) -> Result<(), DeviceFault>
-        ensures kept { OnOk result (Begins F.contents self.old self.new outputs.now) }
+    fn begin_last(
+        &mut self,
+        alloc: Global,
+        outputs: &RowList<u8>,
+        wanted: &PathFilter,
+    ) -> Result<(), DeviceFault>
+        ensures kept { OnOk result (Begins F.contents wanted.now self.old self.new outputs.now) }
         ensures lost { OnErr result (Grows self.old.entries self.new.entries) }
         ensures well { OnOk result (self.new.broken ≡ self.old.broken) }
     {
         self.catch_up(alloc)?;
-        let entries = self.started(alloc, outputs)?;
+        let entries = self.started(alloc, outputs, wanted)?;
         self.append_each(alloc, &entries)
     }
 
     /// Appends entries that say that the command of the edge that makes these files is about to start: one for each of
-    /// them, and one for each other edge which made one of them before. So the entries of these edges end too.
+    /// them, and one for each other edge which made one of them before. So the entries of these edges end too. They keep
+    /// the recorded paths that may be in a set.
     pub(crate) fn begin_all<'a>(
         &mut self,
         alloc: Global,
         outputs: &'a RowList<u8>,
+        wanted: &PathFilter,
     ) -> Result<StartRecorded<'a>, DeviceFault>
         ensures proof { IfOk result (λ b. b ≡ get_or outputs.now 0 []) }
-        ensures kept { OnOk result (Begins F.contents self.old self.new outputs.now) }
+        ensures kept { OnOk result (Begins F.contents wanted.now self.old self.new outputs.now) }
         ensures lost { OnErr result (Grows self.old.entries self.new.entries) }
         ensures well { OnOk result ((self.old.broken ≡ false) × (self.new.broken ≡ false)) }
     {
         self.sink.lock()?;
-        let kept = self.begin_last(alloc, outputs);
+        let kept = self.begin_last(alloc, outputs, wanted);
         self.sink.unlock();
         kept?;
         Ok(StartRecorded {
@@ -514,20 +571,20 @@ impl<F: Read + Write + Seek + OpenFile + SharedFile> RecordFile<F> {
         })
     }
 
-    /// Appends an entry that says that the command of this output's edge is about to start.
+    /// Appends an entry that says that the command of this output's edge is about to start. It keeps the recorded paths
+    /// that may be in a set.
     pub(crate) fn begin<'a>(
         &mut self,
         alloc: Global,
         output: &'a [u8],
+        wanted: &PathFilter,
     ) -> Result<StartRecorded<'a>, DeviceFault>
         ensures proof { IfOk result (λ b. b ≡ output.now) }
-        ensures within { OnOk result (HasSpelling (begun output.now)) }
-        ensures kept { OnOk result (EndsWith self.old.entries self.new.entries (begun output.now)) }
-        ensures written { OnOk result (IsWritten F.contents self.new.file (spelling (begun output.now))) }
+        ensures kept { OnOk result (Ends F.contents wanted.now self.old self.new output.now) }
         ensures lost { OnErr result (Grows self.old.entries self.new.entries) }
         ensures well { OnOk result ((self.old.broken ≡ false) × (self.new.broken ≡ false)) }
     {
-        let begun = begun_entry(alloc, output)?;
+        let begun = self.begun(alloc, output, wanted)?;
         self.keep(alloc, begun)?;
         Ok(StartRecorded { output })
     }

@@ -5,14 +5,14 @@ ghost use Rattle.std.specs.Prelude.{◌≡◌, ◌≤◌, ◌+◌, ◌++◌, [],
 ghost use Rattle.std.specs.Io.KnownBytes.{Appends};
 ghost use Rattle.plan_record.specs.Among.{AreAmong};
 ghost use Rattle.plan_record.specs.Entries.{spelling, HasSpelling};
-ghost use Rattle.plan_world.specs.StartRecorded.{all_begun, begun, begun_with, ended_by, first_named};
+ghost use Rattle.plan_world.specs.StartRecorded.{begun, begun_keeping, begun_with, ended_by, first_named, kept_after, paths_read};
 ghost use Rattle.plan_world.specs.Recording.{edge_entry};
 ghost use Rattle.plan_world.specs.Rewriting.{is_begun};
 
 use crate::builder_lock::SharedFile;
 use crate::fault::DeviceFault;
 use plan_machine::Recorded;
-use plan_record::{Entry, append};
+use plan_record::{Entry, Paths, append};
 use plan_text::{Counted, Items, PathFilter, RowList};
 use plan_verify::{PathList, Words};
 use std::alloc::{AllocError, Global};
@@ -267,48 +267,127 @@ fn begun_with_entry(alloc: Global, first: &[u8], output: &[u8]) -> Result<Entry,
     Ok(Entry::new(alloc, output, &BEGUN, 0, &paths)?)
 }
 
-/// Appends the start entries of an edge that makes these files to others, that of the first one last.
-pub(crate) fn push_all_begun(
+/// Appends the start entries of the outputs of an edge, except the first one, to others.
+pub(crate) fn push_others_begun(
     alloc: Global,
     outputs: &RowList<u8>,
     entries: &mut Vec<Entry>,
 ) -> Result<(), DeviceFault>
-    ensures { OnOk result (entries.new.items ≡ entries.old.items ++ all_begun (get_or outputs.now 0 []) (drop 1 outputs.now)) }
+    ensures { OnOk result (entries.new.items ≡ entries.old.items ++ map (begun_with (get_or outputs.now 0 [])) (drop 1 outputs.now)) }
 {
     for number in 1..outputs.len() {
         entries.push(begun_with_entry(alloc, outputs.row(0), outputs.row(number))?)?;
     }
-    entries.push(begun_entry(alloc, outputs.row(0))?)?;
     Ok(())
 }
 
-/// Returns the start entry that ends the entry of another edge, by its first output. None if it is this edge.
-fn ended_by(alloc: Global, first: &[u8], other: &[u8]) -> Result<Option<Entry>, DeviceFault>
-    ensures { IfOk result (λ entry. option_to_list entry ≡ ended_by first.now (Some other.now)) }
+/// Appends these paths to others, each with its own bytes.
+fn push_rows(
+    alloc: Global,
+    rows: &RowList<u8>,
+    paths: &mut Vec<Items<u8>>,
+) -> Result<(), AllocError>
+    ensures { OnOk result (paths.new.items ≡ paths.old.items ++ rows.now) }
 {
-    if other == first {
-        return Ok(None);
+    for number in 0..rows.len() {
+        paths.push(Items::new(Vec::from_slice(alloc, rows.row(number))?))?;
     }
-    Ok(Some(begun_entry(alloc, other)?))
+    Ok(())
 }
 
-/// Returns the start entry that ends the entry of another edge which made an output before, by the last entry of the
-/// output. None if this entry isn't a start entry that names another edge.
-pub(crate) fn ended_entry(
+/// Appends an output and the paths that its start entry keeps to others, if there are any.
+#[tactic(auto, using(crate::proofs::RecordingLemmas::none_kept, crate::proofs::RecordingLemmas::some_kept))]
+fn push_kept(
     alloc: Global,
+    output: &[u8],
+    kept: &RowList<u8>,
+    paths: &mut Vec<Items<u8>>,
+) -> Result<(), AllocError>
+    ensures { OnOk result (paths.new.items ≡ paths.old.items ++ kept_after output.now kept.now) }
+{
+    if kept.len() == 0 {
+        return Ok(());
+    }
+    paths.push(Items::new(Vec::from_slice(alloc, output)?))?;
+    push_rows(alloc, kept, paths)
+}
+
+/// Returns the start entry of a first output that keeps these paths.
+pub(crate) fn begun_keeping_entry(
+    alloc: Global,
+    output: &[u8],
+    kept: &RowList<u8>,
+) -> Result<Entry, DeviceFault>
+    ensures made { IfOk result (λ entry. entry ≡ begun_keeping output.now kept.now) }
+    ensures within { OnOk result (HasSpelling (begun_keeping output.now kept.now)) }
+{
+    let mut paths = Vec::new(alloc);
+    paths.push(Items::new(Vec::from_slice(alloc, &MISSING)?))?;
+    push_kept(alloc, output, kept, &mut paths)?;
+    Ok(Entry::new(alloc, output, &BEGUN, 0, &paths)?)
+}
+
+/// Skips the first two paths.
+fn after_two(paths: Paths) -> Paths
+    ensures { result ≡ drop 2 paths }
+{
+    let mut paths = paths;
+    paths.advance();
+    paths.advance();
+    paths
+}
+
+/// Returns the paths that the last command of an edge read that succeeded, by the last entry of the edge's first output.
+fn paths_read(entry: &Entry) -> Result<Paths, DeviceFault>
+    ensures { IfOk result (λ paths. paths ≡ paths_read (Some entry.now)) }
+{
+    let paths = entry.paths()?;
+    if is_begun(entry) {
+        return Ok(after_two(paths));
+    }
+    Ok(paths)
+}
+
+/// Returns those paths that may be in a set and that the last command of an edge read that succeeded, by the last entry
+/// of the edge's first output.
+pub(crate) fn read_among(
+    alloc: Global,
+    entry: &Entry,
+    wanted: &PathFilter,
+) -> Result<RowList<u8>, DeviceFault>
+    ensures { IfOk result (λ found. AreAmong wanted.now (paths_read (Some entry.now)) found) }
+{
+    let paths = paths_read(entry)?;
+    Ok(paths.among(alloc, wanted)?)
+}
+
+/// Appends the first output of another edge to others, unless it is that of this edge.
+fn push_other(first: &[u8], other: &[u8], outputs: &mut RowList<u8>) -> Result<(), AllocError>
+    ensures { OnOk result (outputs.new ≡ outputs.old ++ ended_by first.now (Some other.now)) }
+{
+    if other == first {
+        return Ok(());
+    }
+    outputs.push(other)
+}
+
+/// Appends the first output of another edge which made an output before, by the last entry of the output, to others.
+/// Appends nothing if this entry isn't a start entry that names another edge.
+pub(crate) fn push_ended(
     first: &[u8],
     last: &Entry,
-) -> Result<Option<Entry>, DeviceFault>
-    ensures { IfOk result (λ entry. option_to_list entry ≡ ended_by first.now (first_named last.now)) }
+    outputs: &mut RowList<u8>,
+) -> Result<(), DeviceFault>
+    ensures { OnOk result (outputs.new ≡ outputs.old ++ ended_by first.now (first_named last.now)) }
 {
     if !is_begun(last) {
-        return Ok(None);
+        return Ok(());
     }
     let mut paths = last.paths()?;
     paths.advance();
     match paths.first() {
-        Some(other) => ended_by(alloc, first, other),
-        None => Ok(None),
+        Some(other) => Ok(push_other(first, other, outputs)?),
+        None => Ok(()),
     }
 }
 

@@ -2,6 +2,7 @@
 
 mod begins;
 mod commands;
+mod depfiles;
 mod failing;
 mod ninja_log;
 mod recalling;

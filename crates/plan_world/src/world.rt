@@ -11,13 +11,17 @@ ghost use Rattle.plan_world.specs.Shells.{AreTexts};
 use crate::askable::{are_askable, are_rows_askable};
 use crate::begins::{Begins, basis_from, is_later};
 use crate::builder_lock::{BuilderLock, SharedFile, is_unwritable, take_lock};
-use crate::depfile::{names_nothing, read_depfile};
+use crate::depfile::{count_named, read_depfile};
 use crate::ended_entries::EndedEntries;
 use crate::fault::{DeviceFault, OpenFault};
+use crate::manifest_paths::ManifestPaths;
 use crate::ninja_log::NinjaLog;
+use crate::read_depfiles::ReadDepfiles;
 use crate::reasons::say;
 use crate::record_file::{Kept, RecordFile, StartRecorded, open_file, open_record, read_as_is};
-use crate::record_sink::{begun_entry, entry_among, is_begun, is_begun_with, recorded_of};
+use crate::record_sink::{
+    begun_entry, entry_among, is_begun, is_begun_with, read_among, recorded_of,
+};
 use crate::rewriting::compact_grown;
 use crate::shell::{Shells, make_folders, run_shell};
 use crate::stamp::{is_file, stamp_at, stat};
@@ -61,6 +65,10 @@ pub struct RealWorld<R: Files, S> {
     begins: Option<Begins>,
     /// The outputs whose entries were ended for this build.
     ended: EndedEntries,
+    /// What is known of the paths of the manifest.
+    manifest: ManifestPaths,
+    /// The depfiles that were read when a command had ended.
+    depfiles: ReadDepfiles,
 }
 
 impl<R: Files + Env + Clock + Eprint + AllocGlobal, S> RealWorld<R, S>
@@ -147,7 +155,9 @@ where
         R: Drop,
         S: Drop,
     {
-        let ended = EndedEntries::new(rt.alloc());
+        let alloc = rt.alloc();
+        let manifest = ManifestPaths::new(alloc)?;
+        let (ended, depfiles) = (EndedEntries::new(alloc), ReadDepfiles::new(alloc));
         match opened {
             Ok(opened) => {
                 let Opened {
@@ -167,6 +177,8 @@ where
                     lock,
                     begins,
                     ended,
+                    manifest,
+                    depfiles,
                 })
             }
             Err(fault) => {
@@ -488,12 +500,13 @@ where
     ) -> Result<StartRecorded<'a>, DeviceFault>
         ensures { IfOk result (λ b. b ≡ get_or outputs.now 0 []) }
     {
+        let wanted = self.manifest.outputs(&self.rt);
         match &self.begins {
             Some(_) => {
-                self.end_in_record(record)?;
-                record.begin_all(self.rt.alloc(), outputs)
+                self.end_in_record(record, &wanted)?;
+                record.begin_all(self.rt.alloc(), outputs, &wanted)
             }
-            None => record.begin(self.rt.alloc(), outputs.row(0)),
+            None => record.begin(self.rt.alloc(), outputs.row(0), &wanted),
         }
     }
 
@@ -520,9 +533,13 @@ where
     /// Appends start entries for the outputs whose entries were ended for this build. When the record is written, its
     /// stamp no longer shows which outputs were changed before. So the next build wouldn't end those entries again that
     /// this one doesn't want, or doesn't reach.
-    fn end_in_record(&self, record: &mut RecordFile<R::File>) -> Result<(), DeviceFault> {
+    fn end_in_record(
+        &self,
+        record: &mut RecordFile<R::File>,
+        wanted: &PathFilter,
+    ) -> Result<(), DeviceFault> {
         let outputs = self.ended.take_unwritten(&self.rt);
-        match begin_each(self.rt.alloc(), record, &outputs) {
+        match begin_each(self.rt.alloc(), record, &outputs, wanted) {
             Ok(()) => Ok(()),
             Err(fault) => {
                 self.ended.give_back(&self.rt, outputs);
@@ -593,15 +610,18 @@ where
         }
     }
 
-    /// Returns the last entry of an output, if there is one. If its entry was ended for this build, returns a start
-    /// entry.
+    /// Returns the last entry of an output as its edge recalls it, if there is one. If its entry was ended for this
+    /// build, returns a start entry.
     fn last(&self, output: &[u8]) -> Result<Option<Entry>, DeviceFault>
         ensures { IfOk result (λ found. IfSome found (λ e. e.output ≡ output.now)) }
     {
         if self.ended.has(&self.rt, output) {
             return Ok(Some(begun_entry(self.rt.alloc(), output)?));
         }
-        self.last_recorded(output)
+        match self.last_recorded(output)? {
+            Some(entry) => Ok(Some(as_recalled(self.rt.alloc(), output, entry)?)),
+            None => Ok(None),
+        }
     }
 
     /// Returns the last entry that the record has for an output, if there is one, whether or not it was ended for this
@@ -630,6 +650,22 @@ where
         }
     }
 
+    /// Returns those paths that the start entry of an output keeps and that may be in a set. Returns None if its last
+    /// entry is no start entry, keeps no such paths, or is spoilt.
+    fn last_begun_among(
+        &self,
+        alloc: Global,
+        output: &[u8],
+        wanted: &PathFilter,
+    ) -> Result<Option<RowList<u8>>, DeviceFault>
+        ensures { IfOk result (λ found. IfSome found (λ paths. AreAskable paths)) }
+    {
+        match self.last_recorded(output)? {
+            Some(entry) => kept_among(alloc, &entry, wanted),
+            None => Ok(None),
+        }
+    }
+
     /// Appends a start entry for the path of a depfile that was read, unless it has an entry. If that fails, the edge
     /// that has it runs once more.
     fn mark_read(&self, path: &[u8]) {
@@ -638,15 +674,24 @@ where
         }
     }
 
-    /// Appends a start entry for the path of a depfile that an edge has read and that is missing or names nothing, if
-    /// this is a world of the stricter rule.
+    /// Lets all depfiles stay if a stamp can't be determined: an edge fails then, although it may have read its depfile.
+    fn note_fault(&self, reply: &Result<Reply, AllocError>) {
+        if let Ok(Reply::Fault) = reply {
+            self.depfiles.keep_all();
+        }
+    }
+
+    /// Notes that an edge has read a depfile, if this is a world of the stricter rule. If the depfile is missing or names
+    /// nothing, appends a start entry for its path. If it names something, it may be removed when the build has ended.
     fn note_read(&self, number: u64, path: &[u8], reply: &Result<Reply, AllocError>) {
         if number == 0 || self.begins.is_none() {
             return;
         }
         if let Ok(reply) = reply {
-            if let Ok(true) = names_nothing(self.rt.alloc(), reply) {
-                self.mark_read(path);
+            match count_named(self.rt.alloc(), reply) {
+                Ok(Some(0)) => self.mark_read(path),
+                Ok(Some(_)) => self.depfiles.add(&self.rt, path),
+                _ => {}
             }
         }
     }
@@ -654,7 +699,9 @@ where
     /// Appends a start entry for a path.
     fn begin_file(&self, path: &[u8]) -> Result<(), DeviceFault> {
         let mut record = self.record.lock(&self.rt);
-        self.read_in(&mut record)?.begin(self.rt.alloc(), path)?;
+        let wanted = self.manifest.outputs(&self.rt);
+        self.read_in(&mut record)?
+            .begin(self.rt.alloc(), path, &wanted)?;
         Ok(())
     }
 
@@ -675,14 +722,15 @@ where
     }
 }
 
-/// Appends a start entry for each of these outputs, each by itself.
+/// Appends a start entry for each of these outputs, each by itself. It keeps the recorded paths that may be in a set.
 fn begin_each<F: Read + Write + Seek + OpenFile + SharedFile>(
     alloc: Global,
     record: &mut RecordFile<F>,
     outputs: &RowList<u8>,
+    wanted: &PathFilter,
 ) -> Result<(), DeviceFault> {
     for number in 0..outputs.len() {
-        record.begin(alloc, outputs.row(number))?;
+        record.begin(alloc, outputs.row(number), wanted)?;
     }
     Ok(())
 }
@@ -713,6 +761,25 @@ fn askable_among(
     }
 }
 
+/// Returns those paths that a start entry keeps and that may be in a set. Returns None if the entry is no start entry,
+/// keeps no such paths, or is spoilt.
+fn kept_among(
+    alloc: Global,
+    entry: &Entry,
+    wanted: &PathFilter,
+) -> Result<Option<RowList<u8>>, DeviceFault>
+    ensures { IfOk result (λ found. IfSome found (λ paths. AreAskable paths)) }
+{
+    if !is_begun(entry) {
+        return Ok(None);
+    }
+    let kept = read_among(alloc, entry, wanted)?;
+    if kept.len() == 0 {
+        return Ok(None);
+    }
+    Ok(if_askable(kept))
+}
+
 /// Returns the reply to a recall that found an entry with these contents. If the system can't be asked about one of its
 /// paths, the entry is spoilt. Then the reply is `Nothing`, so that the edge's command runs again.
 fn replied_entry(recorded: Recorded) -> Reply
@@ -723,6 +790,17 @@ fn replied_entry(recorded: Recorded) -> Reply
     } else {
         Reply::Nothing
     }
+}
+
+/// Returns an entry as its edge recalls it: a start entry without the paths that it keeps, which needn't be looked up.
+fn as_recalled(alloc: Global, output: &[u8], entry: Entry) -> Result<Entry, DeviceFault>
+    requires { entry.output ≡ output.now }
+    ensures { IfOk result (λ e. e.output ≡ output.now) }
+{
+    if is_begun(&entry) {
+        return begun_entry(alloc, output);
+    }
+    Ok(entry)
 }
 
 /// Returns the reply to a recall: the entry that was found for the output, if it isn't spoilt.
@@ -781,7 +859,9 @@ where
     }
 
     fn stat(&self, _number: u64, path: &[u8]) -> Result<Reply, AllocError> {
-        stat(&self.rt, path)
+        let reply = stat(&self.rt, path);
+        self.note_fault(&reply);
+        reply
     }
 
     fn stat_ahead(&self, path: &[u8]) -> Option<u64> {
@@ -809,6 +889,33 @@ where
             Err(DeviceFault::Memory) => Err(AllocError),
             Err(_) => Ok(None),
         }
+    }
+
+    fn begun_among(
+        &self,
+        alloc: Global,
+        output: &[u8],
+        wanted: &PathFilter,
+    ) -> Result<Option<RowList<u8>>, AllocError> {
+        match self.last_begun_among(alloc, output, wanted) {
+            Ok(kept) => Ok(kept),
+            Err(DeviceFault::Memory) => Err(AllocError),
+            Err(_) => Ok(None),
+        }
+    }
+
+    fn take_outputs(&self, outputs: PathFilter) {
+        self.manifest.take_outputs(&self.rt, outputs);
+    }
+
+    fn take_others(&self, others: Option<PathFilter>) {
+        self.manifest.take_others(&self.rt, others);
+    }
+
+    /// Leaves all depfiles if an entry couldn't be kept in this build, or a stamp couldn't be determined: an edge may have
+    /// failed after its depfile was read, which says what it depends on. Leaves files that can't be removed.
+    fn remove_depfiles(&self) {
+        self.depfiles.remove(&self.rt, &self.manifest);
     }
 
     fn record_stamp(&self) -> Option<u64> {
@@ -899,6 +1006,7 @@ where
                 Ok(keep_reply(kept, output, command, basis, paths))
             }
             Err(fault) => {
+                self.depfiles.keep_all();
                 say(&self.rt, "can't keep the entry of", output, fault);
                 fault.or_reply(Reply::Fault)
             }

@@ -4,8 +4,8 @@ use Rattle.plan_commands.proofs.BuildingLemmas.{ok_so}
 use Rattle.plan_commands.proofs.RecordedLemmas.{halves_recalled}
 use Rattle.plan_commands.proofs.recorded.recalled_by_two.Goals as goal
 
-pub returns-in-Ok : goal.returns-in-Ok
-returns-in-Ok g c =
+pub returns-in_ok-all-in-Ok : goal.returns-in_ok-all-in-Ok
+returns-in_ok-all-in-Ok g c =
     let found = c.recalled_apart-first in
     let first = c.in_ok-first-in-Ok.field-0 in
     halves_recalled g.W.World.allows c.args.edges.now (c.len-count.result / 2) c.len-count.result first.items c.in-Ok.second.items c.in_ok-all-in-Ok.all.items
