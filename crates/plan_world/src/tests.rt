@@ -2,9 +2,10 @@
 
 mod begins;
 mod commands;
-mod depfiles;
 mod failing;
+mod kept_paths;
 mod ninja_log;
+mod reading;
 mod recalling;
 mod record;
 
