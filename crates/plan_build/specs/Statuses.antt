@@ -3,6 +3,7 @@ use Rattle.std.specs.Prelude.{◌≡◌, ◌⊎◌, ◌^◌, ◌-◌, ℕ, Bool,
 use Rattle.std.specs.Option.{unwrap_or}
 use Rattle.plan_scope.specs.Scopes.{Text}
 use Rattle.plan_scope.specs.Loading.{FileContents, IsMissing, PathSet}
+use Rattle.plan_scope.specs.Sources.{SameFiles}
 use Rattle.plan_machine.specs.Limits.{Limits}
 use Rattle.plan_lanes.specs.Journals.{Rule}
 use Rattle.plan_options.specs.Saying.{failures, is_dry_run, jobs, last_value, targets, verbosity}
@@ -19,6 +20,7 @@ use Rattle.plan_commands.specs.Building.{Asked, Builds, Stops, asked, exit_statu
 use Rattle.plan_commands.specs.Images.{SinkState}
 use Rattle.plan_commands.specs.declared.building.Done.{Done}
 use Rattle.plan_printing.specs.declared.fault.PlanFault.{PlanFault}
+use Rattle.plan_build_tools.specs.Naming.{NamesTargets}
 
 -- `build.ninja`
 abbrev pub default_manifest : Text
@@ -56,37 +58,47 @@ abbrev pub as_build : (H : Type 0) → (H → List ℕ → Option (List ℕ) →
 as_build H taken showed look =
     by_format (λ (f : BuildLines H). look_of f.display) (λ (f : BuildLines H). TellsBuild (taken f.outputs.now) (showed f.outputs.now) (look_of f.display) f.counts f.line_open f.running.items f.times.items) look
 
--- A manifest may have any contents, and reading it may fail.
-abbrev pub any_contents : FileContents
-any_contents path bytes = Unit {0}
-
-abbrev pub any_path : PathSet
-any_path path = Unit {0}
-
--- A build ended in this way.
-pub record Ended (shown : Shown) (rule : Rule) (a : Asked) (done : Done) : Type 0 where
+-- A build of these files ended in this way.
+pub record Ended (gives : FileContents) (shown : Shown) (rule : Rule) (a : Asked) (done : Done) : Type 0 where
   pub before : SinkState
   pub after : SinkState
-  pub built : Builds any_contents shown rule a before after done
+  pub built : Builds gives shown rule a before after done
 
--- A build was refused because one of its targets is unknown.
-pub record HasUnknownTarget (shown : Shown) (rule : Rule) (a : Asked) : Type 0 where
+-- A build of these files was refused because one of its targets is unknown.
+pub record HasUnknownTarget (gives : FileContents) (fails : PathSet) (shown : Shown) (rule : Rule) (a : Asked) : Type 0 where
   pub before : SinkState
   pub after : SinkState
   pub fault : PlanFault
   pub reads : ℕ
   pub failed : ℕ
   pub number : fault.number ≡ 132
-  pub stopped : Stops any_contents (IsMissing any_contents any_path reads failed) shown rule a before after fault
+  pub stopped : Stops gives (IsMissing gives fails reads failed) shown rule a before after fault
 
--- A build ended with exit status 0.
-pub record EndedWell (shown : Shown) (rule : Rule) (a : Asked) : Type 0 where
+-- A build of these files ended with exit status 0.
+pub record EndedWell (gives : FileContents) (shown : Shown) (rule : Rule) (a : Asked) : Type 0 where
   pub done : Done
-  pub ended : Ended shown rule a done
+  pub ended : Ended gives shown rule a done
   pub well : exit_status done ≡ 0
 
--- The meaning of status 0 for a command line without `-n`. Its build succeeded, and its runs were shown in this way. Or
--- one of its targets isn't a target of the manifest, and the words name other paths.
-abbrev pub SaysBuilt : Shown → Rule → List Argument → (default : ℕ) → (status : ℕ) → Type 0
-SaysBuilt shown rule line default status =
-    status ≡ 0 → is_dry_run line ≡ false → EndedWell shown rule (asked_by line default) ⊎ HasUnknownTarget shown rule (asked_by line default)
+-- The state of a source in which it may return the same as in another one.
+abbrev pub IsSameSource : {S : Type 0} → (gives : S → FileContents) → (fails : S → PathSet) → (now before : S) → Type 0
+IsSameSource gives fails now before = SameFiles (gives now) (fails now) (gives before) (fails before)
+
+-- Words name other paths than targets by their names: sources, `PATH^`, or paths that aren't in canonical form. They
+-- name these targets, and these were built with exit status 0. If they name no target, nothing was built.
+pub record BuiltNamed {S : Type 0} (gives : S → FileContents) (fails : S → PathSet) (source : S) (shown : Shown) (rule : Rule) (path : Text) (limits : Limits) (words : List Text) : Type 0 where
+  pub read : S
+  pub same : IsSameSource gives fails read source
+  pub names : List Text
+  pub named : NamesTargets (gives read) (fails read) path words names
+  pub later : S
+  pub stays : IsSameSource gives fails later source
+  pub built : (names ≡ []) ⊎ EndedWell (gives later) shown rule (asked path limits names)
+
+-- The meaning of status 0 for a command line without `-n`, if its manifest is read from this source. Its build
+-- succeeded, and its runs were shown in this way. Or one of its targets isn't a target of the manifest, and the words
+-- name other paths.
+abbrev pub SaysBuilt : {S : Type 0} → (gives : S → FileContents) → (fails : S → PathSet) → (source : S) → Shown → Rule → List Argument → (default : ℕ) → (status : ℕ) → Type 0
+SaysBuilt gives fails source shown rule line default status =
+    status ≡ 0 → is_dry_run line ≡ false → EndedWell (gives source) shown rule (asked_by line default)
+    ⊎ (HasUnknownTarget (gives source) (fails source) shown rule (asked_by line default) × BuiltNamed gives fails source shown rule (manifest_in line) (limits_of line default) (targets line))

@@ -1,6 +1,8 @@
 //! Other threads read the record and ask for stamps while a build compiles its manifest.
 
 ghost use Rattle.std.specs.Thread.{IsSend, IsSync};
+ghost use Rattle.plan_stamps.specs.Stamps.{AllowsOnce};
+ghost use Rattle.plan_build.specs.Statuses.{SaysBuilt, as_build, display_in};
 
 use crate::building::Builder;
 use crate::refusal::refuse_record;
@@ -10,6 +12,7 @@ use plan_lanes::World;
 use plan_options::CommandLine;
 use plan_progress::{Outputs, Stopwatch};
 use plan_record::Entry;
+use plan_scope::Source;
 use plan_stamps::StampCache;
 use plan_world::{OpenFault, RealWorld, SharedFile};
 use std::fs::OpenFile;
@@ -66,6 +69,37 @@ fn look_ahead<R: Threads + Wait + Sync, W: World + RecordedWorld + Send + Sync>(
     Ok(())
 }
 
+/// Calls a function. Meanwhile another thread reads the record, and this many threads ask for stamps. Returns the
+/// result of the function, and whether the record can be used.
+fn while_looking_ahead<
+    R: Threads + Wait + Sync,
+    W: World + RecordedWorld + Send + Sync,
+    T: Drop,
+    F: FnOnce() -> T,
+>(rt: &R, world: &StampCache<'_, R, W>, threads: usize, build: F) -> (T, Result<(), OpenFault>)
+    requires { F.pre build }
+    ensures { F.post build result.0 }
+{
+    let is_over = AtomicBool::new(false);
+    let is_over = &is_over;
+    thread::scope(
+        thread::scope_env(),
+        rt,
+        move |scope| -> (T, Result<(), OpenFault>)
+            requires { IsSync R.row × IsSend W.row × IsSync W.row × F.pre build }
+            ensures { F.post build result.0 }
+        {
+            let ahead = scope.spawn(move || look_ahead(world, threads, is_over));
+            let built = build();
+            is_over.store(true, Ordering::SeqCst);
+            match ahead {
+                Ok(ahead) => (built, ahead.join(rt)),
+                Err(_) => (built, Ok(())),
+            }
+        },
+    )
+}
+
 impl<
     R: Threads + Wait + Sync + Files + Print + Eprint + Clock + AllocGlobal,
     E: Print,
@@ -74,23 +108,22 @@ impl<
 > Builder<'_, R, E, StampCache<'_, R, W>, H> {
     /// Builds like `build_line`. Meanwhile another thread reads the record, and this many threads ask for stamps. If
     /// the record can't be used, reports that when the build has ended. Returns the exit status.
-    pub fn build_looking_ahead(&self, line: &CommandLine, jobs: u16, threads: usize) -> u8 {
-        let is_over = AtomicBool::new(false);
-        let (world, is_over) = (self.world, &is_over);
-        let (status, read) = thread::scope(
-            thread::scope_env(),
+    pub fn build_looking_ahead<S: Source>(
+        &self,
+        source: &mut S,
+        line: &CommandLine,
+        jobs: u16,
+        threads: usize,
+    ) -> u8
+        ensures { SaysBuilt S.gives S.fails source.old (as_build H H.taken H.showed (display_in line.now self.now.on_terminal self.now.colours self.now.template.now self.now.width)) (λ _ question reply. AllowsOnce W.allows question reply) line.now jobs result }
+    {
+        let (status, read) = while_looking_ahead(
             self.rt,
-            |scope| -> (u8, Result<(), OpenFault>)
-                requires { IsSync R.row × IsSend W.row × IsSync W.row }
-            {
-                let ahead = scope.spawn(|| look_ahead(world, threads, is_over));
-                let status = self.build_line(line, jobs);
-                is_over.store(true, Ordering::SeqCst);
-                match ahead {
-                    Ok(ahead) => (status, ahead.join(self.rt)),
-                    Err(_) => (status, Ok(())),
-                }
-            },
+            self.world,
+            threads,
+            || -> u8
+                ensures { SaysBuilt S.gives S.fails source.entry.now (as_build H H.taken H.showed (display_in line.entry.now self.entry.now.on_terminal self.entry.now.colours self.entry.now.template.now self.entry.now.width)) (λ _ question reply. AllowsOnce W.allows question reply) line.entry.now jobs result }
+            { self.build_line(source, line, jobs) },
         );
         match read {
             Ok(()) => status,

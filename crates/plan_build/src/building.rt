@@ -1,31 +1,41 @@
 //! The build that a command line asks for.
 
-ghost use Rattle.std.specs.Prelude.{◌≡◌, IfErr, IfOk, Ok, false, map};
+ghost use Rattle.std.specs.Prelude.{◌≡◌, IfErr, IfOk, IfSome, Ok, false, map};
+ghost use Rattle.plan_scope.specs.Sources.{SameFiles};
 ghost use Rattle.plan_options.specs.Saying.{is_dry_run};
 ghost use Rattle.plan_commands.specs.Building.{asked, exit_status};
 ghost use Rattle.plan_commands.specs.declared.building.Done.{Done};
 ghost use Rattle.plan_progress.specs.BuildLines.{look_of};
 ghost use Rattle.plan_build.specs.Statuses as statuses;
-ghost use Rattle.plan_build.specs.Statuses.{Ended, HasUnknownTarget, SaysBuilt, as_build, display_in};
+ghost use Rattle.plan_build.specs.Statuses.{BuiltNamed, Ended, HasUnknownTarget, SaysBuilt, as_build, display_in};
 
 use crate::ending::{NOTHING, Tally, end_build, may_run_others, no_work, note_restat, tally_of};
-use crate::record_place::{ManifestFiles, RecordPlace};
+use crate::record_place::RecordPlace;
 use crate::refusal::{UNKNOWN_TARGET, refuse, refuse_moved, refuse_tool};
 use crate::watched_screen::{WatchedScreen, WriteWatcher};
 use crate::words::{is_quiet, manifest_in, style_in};
-use plan_build_tools::{Named, named_in};
+use plan_build_tools::{named_in, slices_of};
 use plan_commands::{Done, Listed, Order, Printer, do_build, do_dry_build};
 use plan_lanes::{Observing, World};
 use plan_machine::Options;
 use plan_options::CommandLine;
 use plan_printing::{PlanFault, no_memory};
 use plan_progress::{BuildLines, Counts, Display, Outputs, Stopwatch};
+use plan_scope::Source;
 use std::rt::{Clock, Files};
 use std::sync::{Mutex, Wait};
 use std::thread::{Parker, Threads};
 
 /// The printer of the runs of a build.
 type BuildPrinter<'a, R, H> = Printer<BuildLines<'a, H>, WatchedScreen<'a, R, H>>;
+
+/// Returns the options that a command line gives. If `-j` isn't given, they have this many jobs. None if no options may
+/// have them.
+fn options_in(line: &CommandLine, jobs: u16) -> Option<Options>
+    ensures { IfSome result (λ options. options ≡ statuses.limits_of line.now jobs) }
+{
+    Options::new(line.jobs().unwrap_or(jobs), line.failures())
+}
 
 /// The environment of a build.
 #[derive(Drop)]
@@ -135,16 +145,18 @@ impl<
     }
 
     /// Builds targets. Also returns how many edges failed, and how many were tried.
-    fn run(
+    fn run<S: Source>(
         &self,
+        source: &mut S,
         line: &CommandLine,
         options: Options,
         targets: &[&[u8]],
     ) -> (Result<Done, PlanFault>, Tally)
+        ensures same { SameFiles (S.gives source.new) (S.fails source.new) (S.gives source.old) (S.fails source.old) }
         ensures done { let a = asked (statuses.manifest_in line.now) options (map (λ n. n.now) targets.now) in
-            IfOk result.0 (λ done. Ended (as_build H H.taken H.showed (display_in line.now self.now.on_terminal self.now.colours self.now.template.now self.now.width)) W.allows a done) }
+            IfOk result.0 (λ done. Ended (S.gives source.old) (as_build H H.taken H.showed (display_in line.now self.now.on_terminal self.now.colours self.now.template.now self.now.width)) W.allows a done) }
         ensures unknown { let a = asked (statuses.manifest_in line.now) options (map (λ n. n.now) targets.now) in
-            IfErr result.0 (λ fault. fault.number ≡ 132 → HasUnknownTarget (as_build H H.taken H.showed (display_in line.now self.now.on_terminal self.now.colours self.now.template.now self.now.width)) W.allows a) }
+            IfErr result.0 (λ fault. fault.number ≡ 132 → HasUnknownTarget (S.gives source.old) (S.fails source.old) (as_build H H.taken H.showed (display_in line.now self.now.on_terminal self.now.colours self.now.template.now self.now.width)) W.allows a) }
     {
         let (rt, alloc) = (self.rt, self.rt.alloc());
         let order = Order {
@@ -152,17 +164,8 @@ impl<
             options,
             targets,
         };
-        let mut manifests = ManifestFiles::new(rt, order.manifest, self.place);
         let printer = self.printer(line);
-        let (done, printer) = do_build(
-            rt,
-            alloc,
-            &mut manifests,
-            &order,
-            self.world,
-            self.parker,
-            printer,
-        );
+        let (done, printer) = do_build(rt, alloc, source, &order, self.world, self.parker, printer);
         if done.is_ok() && !line.keeps_depfiles() {
             self.world.remove_depfiles();
         }
@@ -179,8 +182,9 @@ impl<
 
     /// Prints the commands that a build would run, and notes if there may be more. Also returns how many edges
     /// would fail, and how many would be tried.
-    fn preview(
+    fn preview<S: Source>(
         &self,
+        source: &mut S,
         line: &CommandLine,
         options: Options,
         targets: &[&[u8]],
@@ -191,12 +195,11 @@ impl<
             options,
             targets,
         };
-        let mut manifests = ManifestFiles::new(rt, order.manifest, self.place);
         let printer = self.printer(line);
         let (done, printer, listed) = do_dry_build(
             rt,
             alloc,
-            &mut manifests,
+            source,
             &order,
             self.world,
             self.parker,
@@ -211,21 +214,23 @@ impl<
 
     /// Builds targets, or with `-n` prints the commands that would run. Also returns how many edges failed, and how
     /// many were tried.
-    fn build(
+    fn build<S: Source>(
         &self,
+        source: &mut S,
         line: &CommandLine,
         options: Options,
         targets: &[&[u8]],
     ) -> (Result<Done, PlanFault>, Tally)
+        ensures same { is_dry_run line.now ≡ false → SameFiles (S.gives source.new) (S.fails source.new) (S.gives source.old) (S.fails source.old) }
         ensures done { let a = asked (statuses.manifest_in line.now) options (map (λ n. n.now) targets.now) in
-            is_dry_run line.now ≡ false → IfOk result.0 (λ done. Ended (as_build H H.taken H.showed (display_in line.now self.now.on_terminal self.now.colours self.now.template.now self.now.width)) W.allows a done) }
+            is_dry_run line.now ≡ false → IfOk result.0 (λ done. Ended (S.gives source.old) (as_build H H.taken H.showed (display_in line.now self.now.on_terminal self.now.colours self.now.template.now self.now.width)) W.allows a done) }
         ensures unknown { let a = asked (statuses.manifest_in line.now) options (map (λ n. n.now) targets.now) in
-            is_dry_run line.now ≡ false → IfErr result.0 (λ fault. fault.number ≡ 132 → HasUnknownTarget (as_build H H.taken H.showed (display_in line.now self.now.on_terminal self.now.colours self.now.template.now self.now.width)) W.allows a) }
+            is_dry_run line.now ≡ false → IfErr result.0 (λ fault. fault.number ≡ 132 → HasUnknownTarget (S.gives source.old) (S.fails source.old) (as_build H H.taken H.showed (display_in line.now self.now.on_terminal self.now.colours self.now.template.now self.now.width)) W.allows a) }
     {
         if line.is_dry_run() {
-            self.preview(line, options, targets)
+            self.preview(source, line, options, targets)
         } else {
-            self.run(line, options, targets)
+            self.run(source, line, options, targets)
         }
     }
 
@@ -248,67 +253,73 @@ impl<
         }
     }
 
-    /// Builds the paths that words name, after a build refused one of the words as a target. The word may be `PATH^`, a
-    /// source, or a path not in canonical form. Sources that exist are up to date. Returns the exit status.
-    fn build_named(&self, line: &CommandLine, options: Options, words: &[&[u8]]) -> u8 {
-        match named_in(self.rt, manifest_in(line), words) {
-            Ok(Named::Sources) => no_work(self.rt, self.errors),
-            Ok(Named::Targets(paths)) => match paths.slices(self.rt.alloc()) {
-                Ok(targets) => {
-                    let (done, tally) = self.build(line, options, &targets);
-                    self.end(line, done, tally)
-                }
-                Err(_) => self.end(line, Err(no_memory(self.rt.alloc())), NOTHING),
-            },
-            Err(fault) => refuse_tool(self.rt, self.errors, manifest_in(line), &fault),
+    /// Builds the targets that words name, after a build refused one of the words as a target. The word may be `PATH^`,
+    /// a source, or a path not in canonical form. Sources that exist are up to date. Returns the exit status.
+    fn build_named<S: Source>(
+        &self,
+        source: &mut S,
+        line: &CommandLine,
+        options: Options,
+        words: &[&[u8]],
+    ) -> u8
+        ensures { result ≡ 0 → is_dry_run line.now ≡ false → BuiltNamed S.gives S.fails source.old (as_build H H.taken H.showed (display_in line.now self.now.on_terminal self.now.colours self.now.template.now self.now.width)) W.allows (statuses.manifest_in line.now) options (map (λ w. w.now) words.now) }
+    {
+        let alloc = self.rt.alloc();
+        let paths = match named_in(self.rt, source, manifest_in(line), words) {
+            Ok(paths) => paths,
+            Err(fault) => return refuse_tool(self.rt, self.errors, manifest_in(line), &fault),
+        };
+        if paths.len() == 0 {
+            return no_work(self.rt, self.errors);
+        }
+        match slices_of(alloc, &paths) {
+            Ok(targets) => {
+                let (done, tally) = self.build(source, line, options, &targets);
+                self.end(line, done, tally)
+            }
+            Err(_) => self.end(line, Err(no_memory(alloc)), NOTHING),
         }
     }
 
     /// Builds like `build_line`, and shows before each command why it runs. To do so, observes edges.
     /// Returns the exit status.
-    pub fn build_explained(&self, line: &CommandLine, jobs: u16) -> u8
-        ensures { SaysBuilt (as_build H H.taken H.showed (display_in line.now self.now.on_terminal self.now.colours self.now.template.now self.now.width)) W.allows line.now jobs result }
+    pub fn build_explained<S: Source>(&self, source: &mut S, line: &CommandLine, jobs: u16) -> u8
+        ensures { SaysBuilt S.gives S.fails source.old (as_build H H.taken H.showed (display_in line.now self.now.on_terminal self.now.colours self.now.template.now self.now.width)) W.allows line.now jobs result }
     {
         let observing = Observing::new(self.world);
-        self.in_world(&observing).build_line(line, jobs)
+        self.in_world(&observing).build_line(source, line, jobs)
     }
 
     /// Prints which commands would run for the targets that are the words of a tool, but runs none. If there are no
     /// words, the targets are the defaults. Returns the exit status.
-    fn preview_words(&self, line: &CommandLine, jobs: u16) -> u8 {
+    fn preview_words<S: Source>(&self, source: &mut S, line: &CommandLine, jobs: u16) -> u8 {
         let alloc = self.rt.alloc();
-        let (Some(options), Ok(targets)) = (
-            Options::new(line.jobs().unwrap_or(jobs), line.failures()),
-            line.tool_words(alloc),
-        ) else {
+        let (Some(options), Ok(targets)) = (options_in(line, jobs), line.tool_words(alloc)) else {
             return self.end(line, Err(no_memory(alloc)), NOTHING);
         };
-        let (done, tally) = self.preview(line, options, &targets);
+        let (done, tally) = self.preview(source, line, options, &targets);
         self.end(line, done, tally)
     }
 
     /// Prints which commands would run for the words of a tool, like `preview_words`, and why. Returns the exit status.
-    pub fn explain(&self, line: &CommandLine, jobs: u16) -> u8 {
+    pub fn explain<S: Source>(&self, source: &mut S, line: &CommandLine, jobs: u16) -> u8 {
         let observing = Observing::new(self.world);
-        self.in_world(&observing).preview_words(line, jobs)
+        self.in_world(&observing).preview_words(source, line, jobs)
     }
 
-    /// Builds the targets of a command line. At most `jobs` commands run at once if `-j` isn't given. Returns the exit
-    /// status.
-    pub fn build_line(&self, line: &CommandLine, jobs: u16) -> u8
-        ensures { SaysBuilt (as_build H H.taken H.showed (display_in line.now self.now.on_terminal self.now.colours self.now.template.now self.now.width)) W.allows line.now jobs result }
+    /// Builds the targets of a command line. Reads the manifest from a source. At most `jobs` commands run at once if
+    /// `-j` isn't given. Returns the exit status.
+    pub fn build_line<S: Source>(&self, source: &mut S, line: &CommandLine, jobs: u16) -> u8
+        ensures { SaysBuilt S.gives S.fails source.old (as_build H H.taken H.showed (display_in line.now self.now.on_terminal self.now.colours self.now.template.now self.now.width)) W.allows line.now jobs result }
     {
         let alloc = self.rt.alloc();
-        let (Some(options), Ok(targets)) = (
-            Options::new(line.jobs().unwrap_or(jobs), line.failures()),
-            line.targets(alloc),
-        ) else {
+        let (Some(options), Ok(targets)) = (options_in(line, jobs), line.targets(alloc)) else {
             return self.end(line, Err(no_memory(alloc)), NOTHING);
         };
-        let (done, tally) = self.build(line, options, &targets);
+        let (done, tally) = self.build(source, line, options, &targets);
         match done {
             Err(fault) if fault.number == UNKNOWN_TARGET => {
-                self.build_named(line, options, &targets)
+                self.build_named(source, line, options, &targets)
             }
             done => self.end(line, done, tally),
         }

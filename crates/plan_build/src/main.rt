@@ -2,6 +2,12 @@
 //! that it depends on do the work.
 #![tactic(auto)]
 
+ghost use Rattle.std.specs.Prelude.{◌≡◌, None, false};
+ghost use Rattle.plan_options.specs.Saying.{last_value};
+ghost use Rattle.plan_options.specs.declared.argument.Setting.TheVariants as setting;
+ghost use Rattle.plan_stamps.specs.Stamps.{AllowsOnce};
+ghost use Rattle.plan_build.specs.Statuses.{SaysBuilt, as_build, display_in};
+
 mod ahead;
 mod builddir;
 mod building;
@@ -24,7 +30,7 @@ mod words;
 use crate::ahead::RecordedWorld;
 use crate::building::Builder;
 use crate::held_outputs::HeldOutputs;
-use crate::record_place::RecordPlace;
+use crate::record_place::{ManifestFiles, RecordPlace};
 use crate::refusal::{refuse, refuse_loading, refuse_record, refuse_tool};
 use crate::shells::{BuildShells, is_smart_terminal, shares_terminal, wants_escapes};
 use crate::stopping::{stop_at, warn};
@@ -42,8 +48,9 @@ use plan_printing::{
     ErrorStream, REFUSED, complain, complain_of, no_memory, open_streams, reason_of_error, say,
 };
 use plan_progress::{Outputs, Stopwatch};
+use plan_scope::Source;
 use plan_stamps::StampCache;
-use plan_world::RealWorld;
+use plan_world::{RealWorld, SystemShells};
 use std::alloc::{AllocError, Global};
 use std::io::ErrorKind;
 use std::mem::forget;
@@ -132,7 +139,10 @@ fn missing<R: Files>(rt: &R, manifest: &[u8]) -> Option<ErrorKind> {
 }
 
 /// The world of real files and commands.
-type SystemWorld<'a> = RealWorld<HostRuntime, BuildShells<'a, HostRuntime>>;
+type SystemWorld<'a> = RealWorld<
+    HostRuntime,
+    BuildShells<'a, HostRuntime, SystemShells<HostRuntime>>,
+>;
 
 /// Finds the place of the record of a manifest.
 ///
@@ -180,7 +190,7 @@ fn prepare<E: Print>(
 /// # Errors
 /// The exit status if the world can't be opened. The reason is reported on standard error.
 fn open_world<'a, E: Print>(
-    rt: &HostRuntime,
+    rt: &'a HostRuntime,
     errors: &E,
     line: &CommandLine,
     place: &RecordPlace,
@@ -196,7 +206,8 @@ fn open_world<'a, E: Print>(
     };
     let shells = BuildShells::new(
         alloc,
-        other,
+        rt,
+        SystemShells::new(other),
         outputs,
         wants_escapes(rt),
         shares_terminal(rt),
@@ -325,7 +336,9 @@ fn use_tool<E: Print>(
 }
 
 /// Checks whether a command line asks for the tool that says which commands would run, and why.
-fn asks_for_reasons(line: &CommandLine) -> bool {
+fn asks_for_reasons(line: &CommandLine) -> bool
+    ensures { last_value setting.Tool line.now ≡ None → result ≡ false }
+{
     match line.value(Setting::Tool) {
         Some(name) => name == Tool::Explain.name(),
         None => false,
@@ -406,21 +419,25 @@ fn build<
     E: Print,
     W: World + RecordedWorld + Send + Sync,
     H: Outputs + Stopwatch + WriteWatcher + Sync,
+    S: Source,
 >(
     builder: &Builder<'_, R, E, StampCache<'_, R, W>, H>,
+    source: &mut S,
     line: &CommandLine,
     jobs: u16,
     is_long: bool,
-) -> u8 {
+) -> u8
+    ensures { last_value setting.Tool line.now ≡ None → SaysBuilt S.gives S.fails source.old (as_build H H.taken H.showed (display_in line.now builder.now.on_terminal builder.now.colours builder.now.template.now builder.now.width)) (λ _ question reply. AllowsOnce W.allows question reply) line.now jobs result }
+{
     if asks_for_reasons(line) {
-        builder.explain(line, jobs)
+        builder.explain(source, line, jobs)
     } else if line.is_explained() {
-        builder.build_explained(line, jobs)
+        builder.build_explained(source, line, jobs)
     } else if is_long {
         let threads = threads_ahead(builder.rt, line, line.jobs().unwrap_or(jobs));
-        builder.build_looking_ahead(line, jobs, threads)
+        builder.build_looking_ahead(source, line, jobs, threads)
     } else {
-        builder.build_line(line, jobs)
+        builder.build_line(source, line, jobs)
     }
 }
 
@@ -528,7 +545,8 @@ fn build_in<
         screen,
         parker,
     );
-    build(&builder, &order.line, order.jobs, is_long)
+    let mut manifests = ManifestFiles::new(rt, manifest_in(&order.line), &order.place);
+    build(&builder, &mut manifests, &order.line, order.jobs, is_long)
 }
 
 /// Reports that closed streams can't be replaced, and returns the exit code.

@@ -334,7 +334,9 @@ pub fn refuse_tool<R: Files + Eprint + AllocGlobal, E: Print>(
     errors: &E,
     manifest: &[u8],
     fault: &ToolFault,
-) -> u8 {
+) -> u8
+    ensures { result ≡ 1 }
+{
     let alloc = rt.alloc();
     match fault {
         ToolFault::Memory => refuse(rt, errors, manifest, &no_memory(alloc)),

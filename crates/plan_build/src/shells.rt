@@ -4,7 +4,7 @@ use crate::held_outputs::HeldOutputs;
 use crate::watcher::Watcher;
 use plan_output::{shown_output, signal_line};
 use plan_printing::concatenate;
-use plan_world::{Printed, Shells, SystemShells};
+use plan_world::{Printed, Shells};
 use std::alloc::{AllocError, Global};
 use std::io::{self, ErrorKind, IsTerminal};
 use std::os::unix::process::ExitStatusExt;
@@ -13,12 +13,13 @@ use std::rt::{Clock, Env, Files};
 use std::sync::Wait;
 use std::{env, str};
 
-/// The system's shells. The output of a command is held until its mark is shown. If escape sequences aren't wanted,
-/// they are removed from the output.
+/// The shells of a build, over other shells, which start them. The output of a command is held until its mark is shown.
+/// If escape sequences aren't wanted, they are removed from the output.
 #[derive(Drop)]
-pub struct BuildShells<'a, R> {
+pub struct BuildShells<'a, R, S> {
     alloc: Global,
-    shells: SystemShells<R>,
+    rt: &'a R,
+    shells: S,
     outputs: &'a HeldOutputs<'a, R>,
     escapes: bool,
     /// Whether standard output and standard error are the same kind of terminal, on which lines are written over.
@@ -27,20 +28,22 @@ pub struct BuildShells<'a, R> {
     watcher: &'a Watcher,
 }
 
-impl<'a, R> BuildShells<'a, R> {
-    /// Creates the shells of a runtime. The outputs of commands go into `outputs`. If `escapes` is false, removes
-    /// escape sequences. `watcher` begins with the first command.
+impl<'a, R, S> BuildShells<'a, R, S> {
+    /// Creates the shells of a build over other shells. The outputs of commands go into `outputs`. If `escapes` is
+    /// false, removes escape sequences. `watcher` begins with the first command.
     pub fn new(
         alloc: Global,
-        rt: R,
+        rt: &'a R,
+        shells: S,
         outputs: &'a HeldOutputs<'a, R>,
         escapes: bool,
         clears: bool,
         watcher: &'a Watcher,
-    ) -> BuildShells<'a, R> {
+    ) -> BuildShells<'a, R, S> {
         BuildShells {
             alloc,
-            shells: SystemShells::new(rt),
+            rt,
+            shells,
             outputs,
             escapes,
             clears,
@@ -57,7 +60,7 @@ fn add_signal(text: &mut Vec<u8>, status: &ExitStatus) -> Result<(), AllocError>
     }
 }
 
-impl<R: Wait + Clock> BuildShells<'_, R> {
+impl<R: Wait + Clock, S> BuildShells<'_, R, S> {
     /// Checks that a command may begin: somebody may read standard output. If nobody does, the build stops as it does
     /// after a failed command.
     ///
@@ -89,22 +92,20 @@ fn explanation(
     )
 }
 
-impl<R: Processes + Files + Wait + Clock + Eprint + AllocGlobal> Shells for BuildShells<'_, R> {
-    ghost ended = { λ _ _. Unit {0} };
+impl<R: Processes + Files + Wait + Clock + Eprint + AllocGlobal, S: Shells> Shells
+    for BuildShells<'_, R, S> {
+    ghost ended = { S.ended };
 
     fn explain(&self, edge: &[u8], reason: &[u8]) {
         let Ok(line) = explanation(self.alloc, self.clears, edge, reason) else {
             return;
         };
-        let _ = self
-            .shells
-            .runtime()
-            .eprint(str::from_utf8(&line).unwrap_or(NOT_SHOWN));
+        let _ = self.rt.eprint(str::from_utf8(&line).unwrap_or(NOT_SHOWN));
     }
 
     fn output(&self, shell: Command, edge: &[u8]) -> io::Result<Printed> {
         self.check_output()?;
-        self.watcher.begin(self.shells.runtime(), &shell);
+        self.watcher.begin(self.rt, &shell);
         let Printed { status, text } = self.shells.output(shell, edge)?;
         let mut text = shown_output(self.alloc, text, self.escapes)?;
         add_signal(&mut text, &status)?;
@@ -130,7 +131,7 @@ impl<R: Processes + Files + Wait + Clock + Eprint + AllocGlobal> Shells for Buil
 
     fn status(&self, shell: Command) -> io::Result<ExitStatus> {
         self.check_output()?;
-        self.watcher.begin(self.shells.runtime(), &shell);
+        self.watcher.begin(self.rt, &shell);
         self.shells.status(shell)
     }
 }

@@ -1,10 +1,15 @@
 //! Manifests that tools read.
 
+ghost use Rattle.std.specs.Prelude.{IfOk};
+ghost use Rattle.plan_scope.specs.Sources.{SameFiles};
+ghost use Rattle.plan_graph.specs.Graph.{IsGraph};
+ghost use Rattle.plan_build_tools.specs.Naming.{MayLoad};
+
 use crate::fault::ToolFault;
 use plan_graph::{Graph, graph};
 use plan_parse::DirectiveKind;
 use plan_printing::{FileSource, MANIFEST_BYTES, printed_fault, printed_graph_fault};
-use plan_scope::{Manifest, Said, Tree, TreeStatement, evaluate, load};
+use plan_scope::{Manifest, Said, Source, Tree, TreeStatement, evaluate, load};
 use plan_text::{Items, RowList};
 use plan_tools::rules_of;
 use std::alloc::Global;
@@ -37,17 +42,15 @@ fn place_of(alloc: Global, statement: &TreeStatement<'_>) -> Option<StatementPla
     })
 }
 
-/// Reads and evaluates the manifest at a path.
+/// Reads and evaluates the manifest at a path of a source.
 ///
 /// # Errors
 /// If it can't be read or is refused, or memory runs out.
-pub fn load_manifest<R: Files + Eprint + AllocGlobal>(
-    rt: &R,
-    path: &[u8],
-) -> Result<Loaded, ToolFault> {
-    let alloc = rt.alloc();
-    let mut files = FileSource::new(rt, MANIFEST_BYTES);
-    let tree = match load(alloc, &mut files, path) {
+pub fn load_from<S: Source>(alloc: Global, source: &mut S, path: &[u8]) -> Result<Loaded, ToolFault>
+    ensures loaded { IfOk result (λ loaded. MayLoad (S.gives source.old) (S.fails source.old) path.now loaded.manifest) }
+    ensures same { SameFiles (S.gives source.new) (S.fails source.new) (S.gives source.old) (S.fails source.old) }
+{
+    let tree = match load(alloc, source, path) {
         Ok(tree) => tree,
         Err(fault) => return Err(ToolFault::Plan(printed_fault(alloc, &fault))),
     };
@@ -63,12 +66,26 @@ pub fn load_manifest<R: Files + Eprint + AllocGlobal>(
     })
 }
 
+/// Reads and evaluates the manifest at a path of the system's files.
+///
+/// # Errors
+/// If it can't be read or is refused, or memory runs out.
+pub fn load_manifest<R: Files + Eprint + AllocGlobal>(
+    rt: &R,
+    path: &[u8],
+) -> Result<Loaded, ToolFault> {
+    let mut files = FileSource::new(rt, MANIFEST_BYTES);
+    load_from(rt.alloc(), &mut files, path)
+}
+
 impl Loaded {
     /// Returns the graph of the manifest.
     ///
     /// # Errors
     /// If the manifest has no graph, or memory runs out.
-    pub fn graph(&self, alloc: Global) -> Result<Graph<'_>, ToolFault> {
+    pub fn graph(&self, alloc: Global) -> Result<Graph<'_>, ToolFault>
+        ensures { IfOk result (λ graph. IsGraph self.now.manifest graph) }
+    {
         match graph(alloc, &self.manifest) {
             Ok(graph) => Ok(graph),
             Err(fault) => Err(ToolFault::Plan(printed_graph_fault(alloc, &self.manifest, &fault))),

@@ -290,13 +290,16 @@ module _ (g h : FileContents) (f k : PathSet) (b c : ℕ) (shown : Shown) (rule 
   missed d p (inl x) = inl (back p None x.0, x.1 ∙ so.count)
   missed d p (inr x) = inr ((so.same.1 p).0 x.0, x.1 ∙ ap (λ (i : ℕ). i + 1) so.count)
 
+  pub files_stay : (h2 : FileContents) (k2 : PathSet) → SameFiles h2 k2 h k → SameFiles h2 k2 g f
+  files_stay h2 k2 files = (
+    λ p bytes. (λ x. (so.same.0 p bytes).0 ((files.0 p bytes).0 x), λ x. (files.0 p bytes).1 ((so.same.0 p bytes).1 x)),
+    λ p. (λ x. (so.same.1 p).0 ((files.1 p).0 x), λ x. (files.1 p).1 ((so.same.1 p).1 x)),
+  )
+
   pub then_remade : (h2 : FileContents) (k2 : PathSet) (c2 : ℕ) (new : SinkState) → EndsRound h shown rule a mid new round.Remade → SameFiles h2 k2 h k → c2 ≡ c → AreRounds g h2 f k2 b c2 shown rule a (suc n) old new
   then_remade h2 k2 c2 new ended files count =
       record {
-        same = (
-          λ p bytes. (λ x. (so.same.0 p bytes).0 ((files.0 p bytes).0 x), λ x. (files.0 p bytes).1 ((so.same.0 p bytes).1 x)),
-          λ p. (λ x. (so.same.1 p).0 ((files.1 p).0 x), λ x. (files.1 p).1 ((so.same.1 p).1 x)),
-        );
+        same = files_stay h2 k2 files;
         count = count ∙ so.count;
         rounds = one_more so.rounds (round_wider h g back shown rule a mid new round.Remade ended);
       }

@@ -433,6 +433,7 @@ fn build_in_rounds<
     ensures done { let a = defined.asked order.now.manifest.now order.now.options (map (λ n. n.now) order.now.targets.now) in
         IfOk result.0 (λ d. Builds (S.gives source.old) (by_format F.kept F.tells (F.kept printer.format)) W.allows a (O.failures printer.out, O.taken printer.out) (O.failures result.1.out, O.taken result.1.out) d) }
     ensures read { OnOk result.0 (S.failures source.new ≡ S.failures source.old) }
+    ensures same { SameFiles (S.gives source.new) (S.fails source.new) (S.gives source.old) (S.fails source.old) }
     ensures refused { let a = defined.asked order.now.manifest.now order.now.options (map (λ n. n.now) order.now.targets.now) in
         let missing = IsMissing (S.gives source.old) (S.fails source.old) (S.failures source.old) (S.failures source.new) in
         IfErr result.0 (λ fault. Stops (S.gives source.old) missing (by_format F.kept F.tells (F.kept printer.format)) W.allows a (O.failures printer.out, O.taken printer.out) (O.failures result.1.out, O.taken result.1.out) fault) }
@@ -500,6 +501,7 @@ pub fn do_build<
     ensures done { let a = defined.asked order.now.manifest.now order.now.options (map (λ n. n.now) order.now.targets.now) in
         IfOk result.0 (λ d. Builds (S.gives source.old) (by_format F.kept F.tells (F.kept printer.format)) W.allows a (O.failures printer.out, O.taken printer.out) (O.failures result.1.out, O.taken result.1.out) d) }
     ensures read { OnOk result.0 (S.failures source.new ≡ S.failures source.old) }
+    ensures same { SameFiles (S.gives source.new) (S.fails source.new) (S.gives source.old) (S.fails source.old) }
     ensures refused { let a = defined.asked order.now.manifest.now order.now.options (map (λ n. n.now) order.now.targets.now) in
         let missing = IsMissing (S.gives source.old) (S.fails source.old) (S.failures source.old) (S.failures source.new) in
         IfErr result.0 (λ fault. Stops (S.gives source.old) missing (by_format F.kept F.tells (F.kept printer.format)) W.allows a (O.failures printer.out, O.taken printer.out) (O.failures result.1.out, O.taken result.1.out) fault) }
