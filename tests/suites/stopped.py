@@ -98,8 +98,11 @@ def late_command(number: int, group: bool, trap: str, image: bool, program: str,
 # ---- the process that stops commands
 
 def everything_below_is_stopped(place: Place) -> None:
-    """Commands are stopped with what is below them, also with an empty environment. No output is made."""
-    place.write(f"a touch begun$out; env -i /bin/sh -c 'sleep 60 & sleep 60'; touch $out",
+    """Commands are stopped with what is below them, also with an empty environment. No output is made.
+
+    The process with an empty environment is found by its parents, so it is there before the builder is stopped.
+    """
+    place.write(f"a env -i /bin/sh -c 'sleep 60 & touch begun$out; wait'; touch $out",
                 f"b touch begun$out; (sleep 60; touch $out) & wait; touch $out")
     child = place.started("-j2")
     place.begun("a", "b")
