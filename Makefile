@@ -14,7 +14,7 @@ help:
 	@echo "  make demo      build a small C project, edit it, build it again; less than three minutes from a fresh clone"
 	@echo "  make unproved  compile both programs without their proofs, to try them out: $(dir $(UNPROVED)); four minutes"
 	@echo "Build and install it:"
-	@echo "  make           prove and build plan_ninja and plan_build; some 70 minutes from scratch on 4 cores"
+	@echo "  make           prove and build plan_ninja and plan_build; some 75 minutes from scratch on 4 cores"
 	@echo "  make install   copy what was built to PREFIX ($(PREFIX)); it builds nothing"
 	@echo "  make dist      pack a tarball and a .deb of the proved programs: out/dist; after make check"
 	@echo "Change it:"
@@ -22,7 +22,7 @@ help:
 	@echo "  make rows      run the rows, or some of them (NAMES='tab_* scopes/*'); half a minute"
 	@echo "  make units     run the unit tests, compiled without proofs; nine minutes of a processor"
 	@echo "  make tests     run all tests of the program; 4 to 6 minutes"
-	@echo "  make check     run the whole gate: proofs, must-fail edits, tests"
+	@echo "  make check     run the whole gate: proofs, must-fail edits, tests; some 85 minutes from scratch on 4 cores"
 	@echo "  make edits     try the must-fail edits, also those that the gate leaves out (CRATES=plan_text); a minute each"
 	@echo "  make calls     refuse each allocation of the lower crates' calls, and run damaged images; two minutes"
 	@echo "  make real      compare commands and builds of CMake's and Meson's trees with ninja's; more than an hour"
@@ -50,7 +50,7 @@ built: python
 # Builds the proved programs.
 .PHONY: all
 all: kit
-	@echo "proving and building: some 70 minutes from scratch on 4 cores, less if earlier proofs are kept" >&2
+	@echo "proving and building: some 75 minutes from scratch on 4 cores, less if earlier proofs are kept" >&2
 	@cd crates/plan_ninja && rt run -- --help > /dev/null
 	@cd crates/plan_build && rt run -- --version > /dev/null
 	@echo "built and proved: $(PROGRAM) and $(FRONT)"
