@@ -15,7 +15,7 @@ from collections.abc import Iterable, Iterator
 from typing import NamedTuple
 
 CRATES = pathlib.Path(__file__).resolve().parent.parent / "crates"
-IMPL = re.compile(r"^(?:unsafe )?impl(?:<[^{]*?>)? (?:(?P<trait>[\w:]+)(?:<[^{]*?>)? for )?(?P<type>[\w:]+)")
+IMPL = re.compile(r"^(?:unsafe )?impl(?:<[^{]*?>)? (?:(?P<trait>[\w:]+)(?:<[^{]*?>)?\s+for )?(?P<type>[\w:]+)")
 FN = re.compile(r"^(?P<indent> *)(?:pub(?:\([^)]*\))? )?(?:const |unsafe )*fn (?P<name>\w+)")
 TYPE = re.compile(r"^(?:pub(?:\([^)]*\))? )?(?:struct|enum|trait) (?P<name>\w+)", re.MULTILINE)
 USE = re.compile(r"^(?:pub )?use (\w+)(::[^;]*);", re.MULTILINE)
@@ -73,7 +73,8 @@ def functions(crate: str, path: pathlib.Path, lines: list[str]) -> Iterator[Func
     """The functions of a file, in the form that rt fmt gives it."""
     type_, trait = "", ""
     for at, line in enumerate(lines):
-        if found := IMPL.match(line):
+        more = lines[at + 1] if at + 1 < len(lines) else ""
+        if found := IMPL.match(line + more * more.startswith("    for ")):  # a long head is on two lines
             type_, trait = found["type"].split("::")[-1], (found["trait"] or "").split("::")[-1]
         elif found := re.match(r"^(?:pub )?trait (\w+)", line):
             type_ = trait = found[1]

@@ -20,7 +20,6 @@ from typing import NamedTuple
 
 import prove_all
 import tests_path  # noqa: F401: it makes lib known
-import unit_tests
 import without_proofs
 from lib import programs
 
@@ -50,15 +49,29 @@ def read(path: pathlib.Path) -> Edit:
     return Edit(path.parent.name, test, said["file"], said["old"], said["new"], bool(said.get("gate")))
 
 
+def files_of(module: str, source: pathlib.Path) -> list[pathlib.Path]:
+    return [source / f"{module}.rt", *(source / module).glob("**/*.rt")]
+
+
+def needed(module: str, source: pathlib.Path) -> set[str]:
+    """Returns the names of a module and of those modules of its crate that it needs."""
+    found, left = {module}, [module]
+    while left:
+        texts = [file.read_text() for file in files_of(left.pop(), source) if file.is_file()]
+        others = {name for text in texts for name in re.findall(r"\bcrate::(\w+)", text)} - found
+        found |= others
+        left += others
+    return found
+
+
 def keep_only(module: str, crate: pathlib.Path) -> None:
-    """Leaves the other modules of tests out of a crate; a module without tests may serve the one that is kept."""
+    """Leaves the modules of tests that a module doesn't need out of a crate."""
     source = crate / "src"
     text = (source / "lib.rt").read_text()
+    kept = needed(module, source)
     for declared in prove_all.TESTS.finditer(text):
-        name = declared[1]
-        files = [source / f"{name}.rt", *(source / name).glob("**/*.rt")]
-        if name != module and any(unit_tests.TEST.search(file.read_text()) for file in files):
-            prove_all.remove_module(crate, name)
+        if declared[1] not in kept:
+            prove_all.remove_module(crate, declared[1])
             text = text.replace(declared[0], "")
     (source / "lib.rt").write_text(text)
     keep_used(crate)

@@ -47,8 +47,8 @@ PARTS = {
     "machine": ("State::open", "State::apply", "State::follow", "State::loads", "Recorded::new", "Depfile::new",
                 "Depfile::result", "Reply::copy_for_journal", "replay", "same_end"),
     "stamps": ("StampCache::new",),
-    "tools": ("rules_of", "chosen_edges", "command_edges", "edges_of_rules", "build_order", "needed_paths",
-              "edges_of_paths", "files_of_edges", "dead_outputs", "default_paths", "root_paths", "write_target_tree",
+    "tools": ("rules_of", "chosen_edges", "build_order", "files_of_commands", "RemovableFiles::push", "files_of_rules",
+              "needed_paths", "files_of_paths", "dead_outputs", "default_paths", "root_paths", "write_target_tree",
               "write_rule_targets", "closest", "closest_path"),
 }
 # the parts that run lanes, and what they may print: the number of a fault, or 0

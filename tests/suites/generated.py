@@ -173,15 +173,22 @@ def declared(builder: str, folder: pathlib.Path) -> None:
     builds("the edit", builder, folder, {"a.o": "a\ntwo\n"}, "-j4")
 
 
-def listed(builder: str, folder: pathlib.Path) -> None:
-    """A dry build of the object lists its header. A build with reasons names the header as that of the object."""
-    files = {"a.c": "a\n", "h.in": "one\n"}
-    begun(builder, folder, (compiled("a", "h"), copied("h", "h.in")), files, "h")
+def listed(more: str, builder: str, folder: pathlib.Path) -> None:
+    """A dry build lists the header and its object, but no object of another header. Reasons name the header."""
+    files = {"a.c": "a\n", "b.c": "b\n", "g.in": "g\n", "h.in": "one\n"}
+    edges = (compiled("a", "h"), compiled("b", "g"), copied("g", "g.in", more), copied("h", "h.in", more))
+    begun(builder, folder, edges, files, "g", "h")
     (folder / "h.in").write_text("two\n")
-    expect("dry build", ("[1/2] h\n", "", 0), says(builder, folder, "-n", "a.o"))
+    printed, _, status = says(builder, folder, "-n")
+    expect("dry build", (["h", "a.o"], 0), ([line.split()[-1] for line in printed.splitlines()], status))
+    expect("text of the object", "a\none\n", (folder / "a.o").read_text())
+    printed, errors, status = says(builder, folder, "-t", "explain", "a.o")
+    expect("reason before the build", "ninja explain: a.o: h is made again by a command before this one",
+           (printed + errors).splitlines()[-1])
     printed, errors, status = says(builder, folder, "-d", "explain", "a.o")
     expect("what was built", ("[1/2] h\n[2/2] a.o\n", 0), (printed, status))
     expect("reason", "ninja explain: a.o: input h is newer than output a.o", errors.splitlines()[-1])
+    expect("the dry build after it", NOTHING, says(builder, folder, "-n"))
 
 
 class Tree:
@@ -284,6 +291,7 @@ def cases(setting: Setting) -> Iterator[Case]:
     yield Case("turned chain", functools.partial(turned_chain, builder))
     yield Case("cycle of an old entry", functools.partial(cycle, builder))
     yield Case("declared header", functools.partial(declared, builder))
-    yield Case("listed commands", functools.partial(listed, builder))
+    for more in ("", RESTAT):
+        yield Case(f"listed commands{', restat' if more else ''}", functools.partial(listed, more, builder))
     for seed in range(setting.seed, setting.seed + 4):
         yield Case(f"random edits {seed}", functools.partial(rounds, setting.counted(ROUNDS), seed, builder))

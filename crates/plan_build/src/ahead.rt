@@ -38,7 +38,7 @@ pub trait RecordedWorld {
     fn entries(&self) -> Result<Vec<Entry>, OpenFault>;
 }
 
-impl<R: Files + Wait + Eprint + AllocGlobal, S> RecordedWorld for RealWorld<R, S>
+impl<R: Files + Wait + Eprint + AllocGlobal, S, D> RecordedWorld for RealWorld<R, S, D>
 where
     R::File: Read + Write + Seek + OpenFile + SharedFile + Drop,
 {

@@ -50,7 +50,7 @@ use plan_printing::{
 use plan_progress::{Outputs, Stopwatch};
 use plan_scope::Source;
 use plan_stamps::StampCache;
-use plan_world::{RealWorld, SystemShells};
+use plan_world::{RealWorld, SystemDisk, SystemShells};
 use std::alloc::{AllocError, Global};
 use std::io::ErrorKind;
 use std::mem::forget;
@@ -142,6 +142,7 @@ fn missing<R: Files>(rt: &R, manifest: &[u8]) -> Option<ErrorKind> {
 type SystemWorld<'a> = RealWorld<
     HostRuntime,
     BuildShells<'a, HostRuntime, SystemShells<HostRuntime>>,
+    SystemDisk<HostRuntime>,
 >;
 
 /// Finds the place of the record of a manifest.
@@ -201,7 +202,8 @@ fn open_world<'a, E: Print>(
     let manifest = manifest_in(line);
     let own: Result<HostRuntime, AllocError> = rt.clone();
     let other: Result<HostRuntime, AllocError> = rt.clone();
-    let (Ok(own), Ok(other)) = (own, other) else {
+    let third: Result<HostRuntime, AllocError> = rt.clone();
+    let (Ok(own), Ok(other), Ok(third)) = (own, other, third) else {
         return Err(refuse(rt, errors, manifest, &no_memory(alloc)));
     };
     let shells = BuildShells::new(
@@ -213,11 +215,12 @@ fn open_world<'a, E: Print>(
         shares_terminal(rt),
         watcher,
     );
+    let disk = SystemDisk::new(third);
     let opened = if only_reads(line) {
-        RealWorld::open_reading(own, shells, place.record_to_read(rt))
+        RealWorld::open_reading(own, shells, disk, place.record_to_read(rt))
     } else {
         prepare(rt, errors, manifest, place)?;
-        RealWorld::open_stricter(own, shells, place.record())
+        RealWorld::open_stricter(own, shells, disk, place.record())
     };
     match opened {
         Ok(world) => Ok(world),

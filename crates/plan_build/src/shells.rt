@@ -4,11 +4,11 @@ use crate::held_outputs::HeldOutputs;
 use crate::watcher::Watcher;
 use plan_output::{shown_output, signal_line};
 use plan_printing::concatenate;
-use plan_world::{Printed, Shells};
+use plan_world::{PermittedShell, Printed, Shells};
 use std::alloc::{AllocError, Global};
 use std::io::{self, ErrorKind, IsTerminal};
 use std::os::unix::process::ExitStatusExt;
-use std::process::{Command, ExitStatus, Processes};
+use std::process::{ExitStatus, Processes};
 use std::rt::{Clock, Env, Files};
 use std::sync::Wait;
 use std::{env, str};
@@ -103,9 +103,9 @@ impl<R: Processes + Files + Wait + Clock + Eprint + AllocGlobal, S: Shells> Shel
         let _ = self.rt.eprint(str::from_utf8(&line).unwrap_or(NOT_SHOWN));
     }
 
-    fn output(&self, shell: Command, edge: &[u8]) -> io::Result<Printed> {
+    fn output(&self, shell: PermittedShell, edge: &[u8]) -> io::Result<Printed> {
         self.check_output()?;
-        self.watcher.begin(self.rt, &shell);
+        self.watcher.begin(self.rt, shell.shell());
         let Printed { status, text } = self.shells.output(shell, edge)?;
         let mut text = shown_output(self.alloc, text, self.escapes)?;
         add_signal(&mut text, &status)?;
@@ -129,9 +129,9 @@ impl<R: Processes + Files + Wait + Clock + Eprint + AllocGlobal, S: Shells> Shel
         self.outputs.wait_for_label(edge);
     }
 
-    fn status(&self, shell: Command) -> io::Result<ExitStatus> {
+    fn status(&self, shell: PermittedShell) -> io::Result<ExitStatus> {
         self.check_output()?;
-        self.watcher.begin(self.rt, &shell);
+        self.watcher.begin(self.rt, shell.shell());
         self.shells.status(shell)
     }
 }

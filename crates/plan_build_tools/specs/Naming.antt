@@ -12,6 +12,7 @@ use Rattle.plan_scope.specs.declared.manifest.Manifest.{Manifest}
 use Rattle.plan_graph.specs.Files.{Path, number_of, paths_in, producer_at}
 use Rattle.plan_graph.specs.Graph.{IsGraph}
 use Rattle.plan_graph.specs.declared.graph_data.Graph.{Graph}
+use Rattle.plan_tools.specs.Rules.{rules_of}
 
 -- ---- what a word names
 
@@ -75,6 +76,11 @@ pub record AreNamed (g : Graph) (words : List Text) (targets : List Path) : Type
 abbrev pub MayLoad : FileContents → (fails : PathSet) → Text → Manifest → Type 0
 MayLoad gives fails path m =
     (before now : ℕ) × (lines : List TreeStatement) × LoadsFirst gives (IsMissing gives fails before now) path (Ok lines) × (manifest_of lines ≡ Ok m)
+
+-- The same, and these are the rules of its edges.
+abbrev pub MayLoadWith : FileContents → (fails : PathSet) → Text → Manifest → (rules : List Text) → Type 0
+MayLoadWith gives fails path m rules =
+    (before now : ℕ) × (lines : List TreeStatement) × LoadsFirst gives (IsMissing gives fails before now) path (Ok lines) × (manifest_of lines ≡ Ok m) × (rules ≡ rules_of lines)
 
 -- The words name these targets, and otherwise only paths that no edge makes, in a manifest that the files may hold.
 pub record NamesTargets (gives : FileContents) (fails : PathSet) (path : Text) (words : List Text) (targets : List Path) : Type 0 where

@@ -1,17 +1,27 @@
 //! The tools that remove files.
 
+ghost use Rattle.std.specs.Prelude.{◌≡◌, ◌∷◌, [], IfOk, map};
+ghost use Rattle.plan_graph.specs.Graph.{IsGraph};
+ghost use Rattle.plan_graph.specs.declared.graph_data.Graph.{Graph};
+ghost use Rattle.plan_tools.specs.Cleaning as chosen;
+ghost use Rattle.plan_build_tools.specs.Cleaning.{AreOfTargets, Cleans, CleansIn, has};
+
 use crate::fault::{ToolFault, fault_of};
-use crate::loaded::{Loaded, load_manifest};
+use crate::loaded::{Loaded, load_from, load_manifest};
 use crate::path_lists::{set_of, without};
 use crate::paths::paths_named;
 use crate::words::Request;
 use indexmap::IndexMap;
 use plan_graph::Graph;
-use plan_printing::{Buffer, REFUSED, Standard, complain_of, concatenate, reason_of_error};
-use plan_scope::Manifest;
+use plan_printing::{
+    Buffer, FileSource, MANIFEST_BYTES, REFUSED, Standard, complain_of, concatenate,
+    reason_of_error,
+};
+use plan_scope::{Manifest, Source};
 use plan_text::{PathFilter, RowList, Sink, write_all};
 use plan_tools::{
-    command_edges, dead_outputs, edges_of_paths, edges_of_rules, files_of_edges, needed_paths,
+    Removable, RemovableFiles, dead_outputs, files_of_commands, files_of_paths, files_of_rules,
+    needed_paths,
 };
 use std::alloc::{AllocError, Global};
 use std::io::{self, ErrorKind};
@@ -26,7 +36,7 @@ const OUTPUT_BUFFER: usize = 4096;
 struct Batch {
     /// The lines that are printed before the files if the tool is verbose.
     heading: Vec<u8>,
-    files: RowList<u8>,
+    files: RemovableFiles,
 }
 
 /// Returns the files of all commands. Files of generators are included if `generators` is set.
@@ -35,12 +45,24 @@ fn all_files(
     loaded: &Loaded,
     graph: &Graph<'_>,
     generators: bool,
-) -> Result<Batch, ToolFault> {
-    let edges = command_edges(alloc, &loaded.manifest, generators)?;
+) -> Result<Batch, ToolFault>
+    ensures { IfOk result (λ batch. batch.files ≡ chosen.files_of_commands loaded.now.manifest graph.now generators) }
+{
     Ok(Batch {
         heading: Vec::new(alloc),
-        files: files_of_edges(alloc, &loaded.manifest, graph, None, &edges)?,
+        files: files_of_commands(alloc, &loaded.manifest, graph, generators)?,
     })
+}
+
+/// Returns the lines that name targets.
+fn heading_of_targets(alloc: Global, names: &[&[u8]]) -> Result<Vec<u8>, ToolFault> {
+    let mut heading = Vec::new(alloc);
+    for name in names {
+        heading.extend_from_slice(b"Target ")?;
+        heading.extend_from_slice(*name)?;
+        heading.push(b'\n')?;
+    }
+    Ok(heading)
 }
 
 /// Returns the outputs that targets need, and the depfiles of their commands.
@@ -49,19 +71,14 @@ fn files_of_targets(
     loaded: &Loaded,
     graph: &Graph<'_>,
     names: &[&[u8]],
-) -> Result<Batch, ToolFault> {
+) -> Result<Batch, ToolFault>
+    ensures { IfOk result (λ batch. AreOfTargets loaded.now.manifest graph.now (map (λ n. n.now) names.now) batch.files) }
+{
     let targets = paths_named(alloc, graph, names)?;
     let needed = needed_paths(alloc, graph, &targets)?;
-    let edges = edges_of_paths(alloc, &loaded.manifest, graph, &needed)?;
-    let mut heading = Vec::new(alloc);
-    for name in names {
-        heading.extend_from_slice(b"Target ")?;
-        heading.extend_from_slice(*name)?;
-        heading.push(b'\n')?;
-    }
     Ok(Batch {
-        heading,
-        files: files_of_edges(alloc, &loaded.manifest, graph, Some(&needed), &edges)?,
+        heading: heading_of_targets(alloc, names)?,
+        files: files_of_paths(alloc, &loaded.manifest, graph, &needed)?,
     })
 }
 
@@ -71,12 +88,38 @@ fn files_of_rule(
     loaded: &Loaded,
     graph: &Graph<'_>,
     name: &[u8],
-) -> Result<Batch, ToolFault> {
-    let edges = edges_of_rules(alloc, &loaded.manifest, &loaded.rules, &[name])?;
+) -> Result<Batch, ToolFault>
+    ensures { IfOk result (λ batch. batch.files ≡ chosen.files_of_rules loaded.now.manifest graph.now loaded.now.rules (name.now ∷ [])) }
+{
     Ok(Batch {
         heading: concatenate(alloc, &[b"Rule ", name, b"\n"])?,
-        files: files_of_edges(alloc, &loaded.manifest, graph, None, &edges)?,
+        files: files_of_rules(alloc, &loaded.manifest, graph, &loaded.rules, &[name])?,
     })
+}
+
+/// Returns the files of the commands of rules, rule by rule.
+fn files_of_each_rule(
+    alloc: Global,
+    loaded: &Loaded,
+    graph: &Graph<'_>,
+    names: &[&[u8]],
+) -> Result<Vec<Batch>, ToolFault>
+    ensures { IfOk result (λ batches. map (λ b. b.files) batches.items ≡ map (λ name. chosen.files_of_rules loaded.now.manifest graph.now loaded.now.rules (name ∷ [])) (map (λ n. n.now) names.now)) }
+{
+    let mut batches = Vec::new(alloc);
+    for name in names {
+        batches.push(files_of_rule(alloc, loaded, graph, name)?)?;
+    }
+    Ok(batches)
+}
+
+/// Returns a list of one batch.
+fn only(alloc: Global, batch: Batch) -> Result<Vec<Batch>, ToolFault>
+    ensures { IfOk result (λ batches. batches.items ≡ batch ∷ []) }
+{
+    let mut batches = Vec::new(alloc);
+    batches.push(batch)?;
+    Ok(batches)
 }
 
 /// Checks that each name is the name of a rule.
@@ -95,20 +138,18 @@ fn batches_in_graph(
     loaded: &Loaded,
     graph: &Graph<'_>,
     request: &Request<'_>,
-) -> Result<Vec<Batch>, ToolFault> {
-    let mut batches = Vec::new(alloc);
+) -> Result<Vec<Batch>, ToolFault>
+    ensures { IfOk result (λ batches. Cleans loaded.now.manifest graph.now loaded.now.rules (has request.now.letters.items 114) (has request.now.letters.items 103) (map (λ n. n.now) request.now.names.items) (map (λ b. b.files) batches.items)) }
+{
     let names = request.names.as_slice();
     if request.has(b'r') {
         check_rules(alloc, loaded, names)?;
-        for name in names {
-            batches.push(files_of_rule(alloc, loaded, graph, name)?)?;
-        }
-    } else if names.is_empty() {
-        batches.push(all_files(alloc, loaded, graph, request.has(b'g'))?)?;
-    } else {
-        batches.push(files_of_targets(alloc, loaded, graph, names)?)?;
+        return files_of_each_rule(alloc, loaded, graph, names);
     }
-    Ok(batches)
+    match names {
+        [] => only(alloc, all_files(alloc, loaded, graph, request.has(b'g'))?),
+        [_, ..] => only(alloc, files_of_targets(alloc, loaded, graph, names)?),
+    }
 }
 
 /// Returns the files in the graph of a manifest that a request asks to remove.
@@ -116,19 +157,24 @@ fn batches_in_manifest(
     alloc: Global,
     loaded: &Loaded,
     request: &Request<'_>,
-) -> Result<Vec<Batch>, ToolFault> {
+) -> Result<Vec<Batch>, ToolFault>
+    ensures { IfOk result (λ batches. (g : Graph) × IsGraph loaded.now.manifest g × Cleans loaded.now.manifest g loaded.now.rules (has request.now.letters.items 114) (has request.now.letters.items 103) (map (λ n. n.now) request.now.names.items) (map (λ b. b.files) batches.items)) }
+{
     let graph = loaded.graph(alloc)?;
     batches_in_graph(alloc, loaded, &graph, request)
 }
 
-/// Returns the files in the manifest at a path that a request asks to remove.
-fn batches_in<R: Files + Eprint + AllocGlobal>(
-    rt: &R,
+/// Returns the files in the manifest at a path of a source that a request asks to remove.
+fn batches_in<S: Source>(
+    alloc: Global,
+    source: &mut S,
     manifest: &[u8],
     request: &Request<'_>,
-) -> Result<Vec<Batch>, ToolFault> {
-    let loaded = load_manifest(rt, manifest)?;
-    batches_in_manifest(rt.alloc(), &loaded, request)
+) -> Result<Vec<Batch>, ToolFault>
+    ensures { IfOk result (λ batches. CleansIn (S.gives source.old) (S.fails source.old) manifest.now request.now.letters.items (map (λ n. n.now) request.now.names.items) (map (λ b. b.files) batches.items)) }
+{
+    let loaded = load_from(alloc, source, manifest)?;
+    batches_in_manifest(alloc, &loaded, request)
 }
 
 /// Returns the depfiles of edges that may be in a set.
@@ -151,9 +197,9 @@ fn depfiles_among(
 fn without_depfiles(
     alloc: Global,
     manifest: &Manifest,
-    files: &RowList<u8>,
-) -> Result<RowList<u8>, ToolFault> {
-    let wanted = set_of(alloc, files)?;
+    files: &RemovableFiles,
+) -> Result<RemovableFiles, ToolFault> {
+    let wanted = set_of(alloc, files.paths())?;
     let depfiles = depfiles_among(alloc, manifest, &wanted)?;
     without(alloc, files, &depfiles)
 }
@@ -163,7 +209,7 @@ fn dead_in_manifest(
     alloc: Global,
     loaded: &Loaded,
     outputs: &RowList<u8>,
-) -> Result<RowList<u8>, ToolFault> {
+) -> Result<RemovableFiles, ToolFault> {
     let graph = loaded.graph(alloc)?;
     let dead = dead_outputs(alloc, &graph, outputs)?;
     without_depfiles(alloc, &loaded.manifest, &dead)
@@ -178,7 +224,7 @@ pub fn dead_files<R: Files + Eprint + AllocGlobal>(
     rt: &R,
     manifest: &[u8],
     outputs: &RowList<u8>,
-) -> Result<RowList<u8>, ToolFault> {
+) -> Result<RemovableFiles, ToolFault> {
     let loaded = load_manifest(rt, manifest)?;
     dead_in_manifest(rt.alloc(), &loaded, outputs)
 }
@@ -192,8 +238,26 @@ pub struct Manner {
     pub is_verbose: bool,
 }
 
-/// Removes a file or an empty folder, and returns whether there was one.
-fn remove<R: Files>(rt: &R, path: &str) -> io::Result<bool> {
+/// The reason why a file isn't removed.
+#[derive(Drop)]
+enum RemovalFault {
+    /// Its path isn't UTF-8.
+    Path,
+    /// The system refused it.
+    System(io::Error),
+}
+
+/// Returns the path of a file as the system's calls take it.
+fn text_of<'a>(file: &'a Removable<'_>) -> Result<&'a str, RemovalFault> {
+    match str::from_utf8(file.path()) {
+        Ok(text) => Ok(text),
+        Err(_) => Err(RemovalFault::Path),
+    }
+}
+
+/// Removes a file or an empty folder, and returns whether there was one. No other function of a tool removes one.
+fn remove<R: Files>(rt: &R, file: &Removable<'_>) -> Result<bool, RemovalFault> {
+    let path = text_of(file)?;
     let removed = match fs::remove_file(rt, path) {
         Err(error) if error.kind() == ErrorKind::IsADirectory => fs::remove_dir(rt, path),
         removed => removed,
@@ -201,7 +265,33 @@ fn remove<R: Files>(rt: &R, path: &str) -> io::Result<bool> {
     match removed {
         Ok(()) => Ok(true),
         Err(error) if error.kind() == ErrorKind::NotFound => Ok(false),
-        Err(error) => Err(error),
+        Err(error) => Err(RemovalFault::System(error)),
+    }
+}
+
+/// Checks whether a file exists. Returns false if that isn't known.
+fn exists<R: Files>(rt: &R, file: &Removable<'_>) -> Result<bool, RemovalFault> {
+    let path = text_of(file)?;
+    Ok(fs::exists(rt, path).unwrap_or(false))
+}
+
+/// Reports why a file can't be removed, but not for a path that isn't UTF-8.
+fn report<R: AllocGlobal, E: Print>(
+    rt: &R,
+    errors: &E,
+    file: &Removable<'_>,
+    fault: &RemovalFault,
+) {
+    if let RemovalFault::System(error) = fault {
+        let reason = reason_of_error(error);
+        complain_of(
+            rt.alloc(),
+            errors,
+            b"ninja: error: remove(",
+            file.path(),
+            b"): ",
+            reason,
+        );
     }
 }
 
@@ -234,27 +324,17 @@ impl Removal {
         &mut self,
         rt: &R,
         errors: &E,
-        path: &[u8],
+        file: &Removable<'_>,
     ) -> bool {
-        let Ok(text) = str::from_utf8(path) else {
-            self.has_failed = true;
-            return false;
+        let removed = if self.manner.is_dry {
+            exists(rt, file)
+        } else {
+            remove(rt, file)
         };
-        if self.manner.is_dry {
-            return fs::exists(rt, text).unwrap_or(false);
-        }
-        match remove(rt, text) {
+        match removed {
             Ok(is_removed) => is_removed,
-            Err(error) => {
-                let reason = reason_of_error(&error);
-                complain_of(
-                    rt.alloc(),
-                    errors,
-                    b"ninja: error: remove(",
-                    path,
-                    b"): ",
-                    reason,
-                );
+            Err(fault) => {
+                report(rt, errors, file, &fault);
                 self.has_failed = true;
                 false
             }
@@ -266,10 +346,10 @@ impl Removal {
         &mut self,
         rt: &R,
         errors: &E,
-        path: &[u8],
+        file: &Removable<'_>,
         out: &mut W,
     ) -> Result<(), ToolFault> {
-        let alloc = rt.alloc();
+        let (alloc, path) = (rt.alloc(), file.path());
         if self
             .met
             .insert(Vec::from_slice(alloc, path)?, ())?
@@ -277,7 +357,7 @@ impl Removal {
         {
             return Ok(());
         }
-        if !self.remove(rt, errors, path) {
+        if !self.remove(rt, errors, file) {
             return Ok(());
         }
         self.count = self.count.saturating_add(1);
@@ -299,7 +379,9 @@ impl Removal {
             write_all(out, &batch.heading)?;
         }
         for number in 0..batch.files.len() {
-            self.remove_once(rt, errors, batch.files.row(number), out)?;
+            if let Some(file) = batch.files.get(number) {
+                self.remove_once(rt, errors, &file, out)?;
+            }
         }
         Ok(())
     }
@@ -361,7 +443,8 @@ pub fn clean<R: Files + Print + Eprint + Clock + AllocGlobal, E: Print>(
     if request.has(b'r') && request.names.is_empty() {
         return Err(fault_of(rt.alloc(), &[b"expected a rule to clean"]));
     }
-    let batches = batches_in(rt, manifest, request)?;
+    let mut files = FileSource::new(rt, MANIFEST_BYTES);
+    let batches = batches_in(rt.alloc(), &mut files, manifest, request)?;
     remove_printing(rt, errors, manner, &batches)
 }
 
@@ -373,7 +456,7 @@ pub fn remove_files<R: Files + Print + Eprint + Clock + AllocGlobal, E: Print>(
     rt: &R,
     errors: &E,
     manner: Manner,
-    files: RowList<u8>,
+    files: RemovableFiles,
 ) -> Result<u8, ToolFault> {
     let heading = Vec::new(rt.alloc());
     remove_printing(rt, errors, manner, &[Batch { heading, files }])

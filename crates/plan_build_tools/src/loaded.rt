@@ -3,7 +3,7 @@
 ghost use Rattle.std.specs.Prelude.{IfOk};
 ghost use Rattle.plan_scope.specs.Sources.{SameFiles};
 ghost use Rattle.plan_graph.specs.Graph.{IsGraph};
-ghost use Rattle.plan_build_tools.specs.Naming.{MayLoad};
+ghost use Rattle.plan_build_tools.specs.Naming.{MayLoad, MayLoadWith};
 
 use crate::fault::ToolFault;
 use plan_graph::{Graph, graph};
@@ -48,6 +48,7 @@ fn place_of(alloc: Global, statement: &TreeStatement<'_>) -> Option<StatementPla
 /// If it can't be read or is refused, or memory runs out.
 pub fn load_from<S: Source>(alloc: Global, source: &mut S, path: &[u8]) -> Result<Loaded, ToolFault>
     ensures loaded { IfOk result (λ loaded. MayLoad (S.gives source.old) (S.fails source.old) path.now loaded.manifest) }
+    ensures rules { IfOk result (λ loaded. MayLoadWith (S.gives source.old) (S.fails source.old) path.now loaded.manifest loaded.rules) }
     ensures same { SameFiles (S.gives source.new) (S.fails source.new) (S.gives source.old) (S.fails source.old) }
 {
     let tree = match load(alloc, source, path) {

@@ -3,6 +3,7 @@
 use crate::fault::ToolFault;
 use indexmap::IndexMap;
 use plan_text::{PathFilter, RowList};
+use plan_tools::RemovableFiles;
 use std::alloc::{AllocError, Global};
 
 /// Returns the set of some paths.
@@ -23,18 +24,19 @@ fn map_of(alloc: Global, paths: &RowList<u8>) -> Result<IndexMap<Vec<u8>, ()>, T
     Ok(map)
 }
 
-/// Returns the paths that aren't among others.
+/// Returns the files whose paths aren't among others.
 pub fn without(
     alloc: Global,
-    paths: &RowList<u8>,
+    files: &RemovableFiles,
     others: &RowList<u8>,
-) -> Result<RowList<u8>, ToolFault> {
+) -> Result<RemovableFiles, ToolFault> {
     let others = map_of(alloc, others)?;
-    let mut left = RowList::new(alloc);
-    for number in 0..paths.len() {
-        let path = paths.row(number);
-        if !others.contains_key(path) {
-            left.push(path)?;
+    let mut left = RemovableFiles::new(alloc);
+    for number in 0..files.len() {
+        if let Some(file) = files.get(number) {
+            if !others.contains_key(file.path()) {
+                left.push(&file)?;
+            }
         }
     }
     Ok(left)

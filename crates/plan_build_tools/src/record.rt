@@ -7,6 +7,7 @@ use crate::path_lists::{set_of, without};
 use crate::tool::BuildFiles;
 use plan_printing::file_fault;
 use plan_text::RowList;
+use plan_tools::RemovableFiles;
 use plan_world::{OpenFault, ReadingMode, recompact, recorded_outputs, recorded_paths, restat};
 use std::alloc::{AllocError, Global};
 
@@ -80,11 +81,11 @@ fn unused(
     record: &str,
     mode: ReadingMode,
     outputs: &RowList<u8>,
-    dead: &RowList<u8>,
-) -> Result<RowList<u8>, ToolFault> {
+    dead: &RemovableFiles,
+) -> Result<RemovableFiles, ToolFault> {
     let alloc = rt.alloc();
-    let living = living_outputs(alloc, outputs, dead)?;
-    let wanted = set_of(alloc, dead)?;
+    let living = living_outputs(alloc, outputs, dead.paths())?;
+    let wanted = set_of(alloc, dead.paths())?;
     match recorded_paths(rt, record, mode, &living, &wanted) {
         Ok(used) => without(alloc, dead, &used),
         Err(fault) => Err(record_fault(alloc, record, fault)),
@@ -96,7 +97,7 @@ fn dead_in_record(
     rt: &HostRuntime,
     files: &BuildFiles<'_>,
     mode: ReadingMode,
-) -> Result<RowList<u8>, ToolFault> {
+) -> Result<RemovableFiles, ToolFault> {
     let outputs = outputs_recorded(rt, files.record, mode)?;
     let dead = dead_files(rt, files.manifest, &outputs)?;
     unused(rt, files.record, mode, &outputs, &dead)

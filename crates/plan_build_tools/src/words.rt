@@ -1,5 +1,8 @@
 //! The words of a tool.
 
+ghost use Rattle.std.specs.Prelude.{◌≡◌};
+ghost use Rattle.plan_build_tools.specs.Cleaning.{has};
+
 use crate::tool::Tool;
 use plan_options::{operands, option_letters};
 use plan_printing::{REFUSED, complain, say, status_after};
@@ -79,7 +82,9 @@ pub struct Request<'a> {
 
 impl Request<'_> {
     /// Checks whether the option with a letter is given.
-    pub fn has(&self, letter: u8) -> bool {
+    pub fn has(&self, letter: u8) -> bool
+        ensures { result ≡ has self.now.letters.items letter }
+    {
         self.letters.contains(&letter)
     }
 }

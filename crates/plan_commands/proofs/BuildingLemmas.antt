@@ -25,6 +25,8 @@ use Rattle.plan_printing.specs.Faults.{no_memory}
 use Rattle.plan_printing.specs.declared.fault.PlanFault.{PlanFault}
 use Rattle.plan_commands.specs.declared.building.Round.{Round}
 use Rattle.plan_commands.specs.declared.building.Round.TheVariants as round
+use Rattle.plan_commands.specs.declared.recorded_image.Prepared.{Prepared}
+use Rattle.plan_commands.specs.declared.recorded_image.Prepared.TheVariants as prepared
 use Rattle.plan_commands.specs.declared.building.Done.{Done}
 use Rattle.plan_commands.specs.declared.building.Done.TheVariants as done
 use Rattle.plan_commands.specs.Commands.{IsMeant, IsRefused, MayLoad as MayLoads, loading_by}
@@ -33,7 +35,7 @@ use Rattle.plan_commands.specs.NeededFiles.{HasSources, LacksSource}
 use Rattle.plan_commands.specs.Showing.{IsShown, Shown}
 use Rattle.plan_commands.specs.Running.{EndsPrinted, report_in}
 use Rattle.plan_commands.specs.Targets.{target, targets}
-use Rattle.plan_commands.specs.Building.{Asked, IsRead, Nowhere, opened, maker_of, ok_of, outcome_in, Rounds, no_round, one_more, IsUpToDate, FailsToRemake, BuildsTargets, Builds, EndsAs, most_rounds, IsNotRead, IsImageRecorded, LacksRecorded, RefusesRecorded, LacksMemory, RunStops, RunFails, IsNotRun, IsNotTried, maker_source, target_source, RoundStops, TargetsStop, Stops, IsLost, IsRoundOf, EndsRound, HasRunNothing, RunsTargets}
+use Rattle.plan_commands.specs.Building.{Asked, FindsNothingToDo, IsPrepared, IsRead, IsReadAs, Nowhere, path_of_all, opened, maker_of, ok_of, outcome_in, Rounds, no_round, one_more, IsUpToDate, FailsToRemake, BuildsTargets, Builds, EndsAs, most_rounds, IsNotRead, IsImageRecorded, LacksRecorded, RefusesRecorded, LacksMemory, RunStops, RunFails, IsNotRun, IsNotTried, maker_source, target_source, RoundStops, TargetsStop, Stops, IsLost, IsRoundOf, EndsRound, HasRunNothing, RunsTargets}
 use Rattle.plan_commands.proofs.TargetLemmas.{all_inside}
 
 -- ---- the manifest is read
@@ -79,9 +81,8 @@ loads_there g m left job above out lines is (includes_file l path scopes a s mor
 loads_there g m left job above out lines is (includes_fault l path scopes a s more inner fault fine names inside) = absurd cc
 
 -- The image of a manifest that may be loaded is read.
-pub read_of : (g : FileContents) (f : PathSet) (b c : ℕ) (rule : Rule) (path : Text) (manifest : Manifest) (result : Result Parts PlanFault) → IsMeant (loading_by g f b c) path manifest
-    → IfOk result (λ p. IsImageRecorded rule manifest p) → IfOk result (λ p. IsRead g rule path p)
-read_of g f b c rule path manifest (Ok p) m image =
+prepared_as : (g : FileContents) (f : PathSet) (b c : ℕ) (rule : Rule) (a : Asked) (manifest : Manifest) (x : Prepared) → IsMeant (loading_by g f b c) a.path manifest → IsPrepared rule manifest (path_of_all a) x → IsReadAs g rule a x
+prepared_as g f b c rule a manifest (prepared.Image p) m image =
     record {
       lines = m.0;
       manifest = manifest;
@@ -91,7 +92,13 @@ read_of g f b c rule path manifest (Ok p) m image =
       recorded = image.1;
       image = image.2;
     }
-read_of g f b c rule path manifest (Err fault) m image = tt
+prepared_as g f b c rule a manifest prepared.NothingToDo m needs =
+    record { lines = m.0; manifest = manifest; loaded = loads_there g (IsMissing g f b c) more_files _ [] (Ok m.0) m.0 refl m.1; means = m.2; needs = needs }
+
+pub read_of : (g : FileContents) (f : PathSet) (b c : ℕ) (rule : Rule) (a : Asked) (manifest : Manifest) (all : Option Text) (result : Result Prepared PlanFault) → IsMeant (loading_by g f b c) a.path manifest → ◌≡◌ {A = Option Text} all (path_of_all a)
+    → IfOk result (λ x. IsPrepared rule manifest all x) → IfOk result (λ x. IsReadAs g rule a x)
+read_of g f b c rule a manifest all (Ok x) m same is = prepared_as g f b c rule a manifest x m (subst (λ (o : Option Text). IsPrepared rule manifest o x) same is)
+read_of g f b c rule a manifest all (Err fault) m same is = tt
 
 not_read : (loads : MayLoads) (rule : Rule) (path : Text) (manifest : Manifest) (fault : PlanFault) → IsMeant loads path manifest → LacksRecorded rule manifest fault → IsRefused loads path fault ⊎ RefusesRecorded rule loads path fault
 not_read loads rule path manifest fault m (inl (inl g)) = inl (inr (inr (inl (record { lines = m.0; manifest = manifest; cause = g.0; loaded = m.1; means = m.2; refused = g.1; says = g.2 }))))
@@ -160,6 +167,7 @@ maker_is p q path m o same is by = sym is ∙ by ∙ ap (λ (x : Parts). maker_o
 -- How a round goes, from the run of the maker.
 pub round_by : (gives : FileContents) (shown : Shown) (rule : Rule) (a : Asked) (p : Parts) (maker : ℕ) (r : Report) (old new : SinkState) (x : Round) → IsRead gives rule a.path p → Some maker ≡ maker_of p a.path
     → HasSources rule p (maker ∷ []) → EndsPrinted shown rule (opened p a.limits (maker ∷ [])) r old new → IsRoundOf p maker r x → EndsRound gives shown rule a old new x
+round_by gives shown rule a p maker r old new round.NothingToDo read makes sources run is = absurd is
 round_by gives shown rule a p maker r old new (round.UpToDate q) read makes sources run is =
     subst (λ (x : Parts). IsRead gives rule a.path x × IsUpToDate shown rule a x old new) (sym is.0)
     (read, inr (record { maker = maker; makes = sym makes; sources = sources; report = r; run = run; well = is.1; clean = is.2 }))
@@ -186,8 +194,18 @@ module _ (g h : FileContents) (gh : (p : Text) (bytes : Option (List ℕ)) → g
     image = r.image;
   }
 
+  finds_wider : (rule : Rule) (a : Asked) → FindsNothingToDo g rule a → FindsNothingToDo h rule a
+  finds_wider rule a x = record {
+    lines = x.lines;
+    manifest = x.manifest;
+    loaded = loads_wider g h Nowhere Nowhere gh (λ q y. y) more_files _ [] _ x.loaded;
+    means = x.means;
+    needs = x.needs;
+  }
+
   pub round_wider : (shown : Shown) (rule : Rule) (a : Asked) (old new : SinkState) (x : Round) → EndsRound g shown rule a old new x → EndsRound h shown rule a old new x
   round_wider shown rule a old new (round.UpToDate p) x = (read_wider rule a.path p x.0, x.1)
+  round_wider shown rule a old new round.NothingToDo x = (finds_wider rule a x.0, x.1)
   round_wider shown rule a old new round.Remade x = record { parts = x.parts; read = read_wider rule a.path x.parts x.read; maker = x.maker; makes = x.makes; sources = x.sources; report = x.report; run = x.run; well = x.well; ran = x.ran }
   round_wider shown rule a old new round.Failed x = record { parts = x.parts; read = read_wider rule a.path x.parts x.read; maker = x.maker; makes = x.makes; sources = x.sources; report = x.report; run = x.run; ill = x.ill }
 
@@ -307,6 +325,11 @@ module _ (g h : FileContents) (f k : PathSet) (b c : ℕ) (shown : Shown) (rule 
   pub then_fails : (new : SinkState) → n < most_rounds → EndsRound h shown rule a mid new round.Failed → FailsToRemake g shown rule a old new
   then_fails new few ended = record { rounds = n; few = few; middle = mid; remade = so.rounds; fails = round_wider h g back shown rule a mid new round.Failed ended }
 
+  pub then_idle : (new : SinkState) → n < most_rounds → EndsRound h shown rule a mid new round.NothingToDo → Builds g shown rule a old new done.UpToDate
+  then_idle new few ended =
+      let found = round_wider h g back shown rule a mid new round.NothingToDo ended in
+      inr (record { rounds = n; few = few; remade = subst (λ (s : SinkState). Rounds g shown rule a n old s) (sym found.1) so.rounds; finds = found.0 })
+
   targets_built : (p : Parts) (later new : SinkState) (d : Done) → n < most_rounds → EndsRound h shown rule a mid later (round.UpToDate p) → RunsTargets shown rule a p later new d → BuildsTargets g shown rule a old new d
   targets_built p later new d few ended x =
       let settled = round_wider h g back shown rule a mid later (round.UpToDate p) ended in
@@ -329,7 +352,7 @@ module _ (g h : FileContents) (f k : PathSet) (b c : ℕ) (shown : Shown) (rule 
 
   then_built : (p : Parts) (later new : SinkState) (d : Done) → n < most_rounds → EndsRound h shown rule a mid later (round.UpToDate p) → RunsTargets shown rule a p later new d → Builds g shown rule a old new d
   then_built p later new done.Built few ended x = targets_built p later new done.Built few ended x
-  then_built p later new done.UpToDate few ended x = targets_built p later new done.UpToDate few ended x
+  then_built p later new done.UpToDate few ended x = inl (targets_built p later new done.UpToDate few ended x)
   then_built p later new done.Failed few ended x = targets_built p later new done.Failed few ended x
   then_built p later new done.ManifestFails few ended x = absurd x.ends
   then_built p later new done.NeverSettles few ended x = absurd x.ends

@@ -18,7 +18,7 @@ module _ (gives : FileContents) (shown : Shown) (rule : Rule) (a : Asked) (p : P
 
   previews : (d : Done) → RunsTargets shown rule a p middle new d → Previews gives shown rule a old new d
   previews done.Built run = inr (previews_targets done.Built run)
-  previews done.UpToDate run = previews_targets done.UpToDate run
+  previews done.UpToDate run = inl (previews_targets done.UpToDate run)
   previews done.Failed run = previews_targets done.Failed run
   previews done.ManifestFails run = absurd run.ends
   previews done.NeverSettles run = absurd run.ends

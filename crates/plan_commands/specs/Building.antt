@@ -1,7 +1,9 @@
 -- How a build goes. The manifest is read, with what the record adds to it, and compiled. If an edge makes it, that edge
 -- is run first, and the manifest is read again each time that the edge's command ran. Then the image of the manifest
--- that was read last is run.
-use Rattle.std.specs.Prelude.{◌≡◌, ◌⊎◌, ◌<◌, ℕ, suc, true, false, List, [], ◌∷◌, Option, Some, None, Result, Ok, Err, slice_get}
+-- that was read last is run. If a build names no targets, and all edges are up to date that it needs, nothing is run.
+use Rattle.std.specs.Prelude.{◌≡◌, ◌⊎◌, ◌<◌, ℕ, suc, true, false, List, [], ◌∷◌, Option, Some, None, Result, Ok, Err, ◌++◌, slice_get}
+use Rattle.plan_text.specs.Path.{canonical_of}
+use Rattle.plan_text.specs.declared.fault.TextFault.{TextFault}
 use Rattle.plan_scope.specs.Trees.{TreeStatement}
 use Rattle.plan_scope.specs.Scopes.{Text}
 use Rattle.plan_scope.specs.Loading.{FileContents, PathSet, LoadsFirst}
@@ -9,6 +11,9 @@ use Rattle.plan_scope.specs.Edges.{manifest_of}
 use Rattle.plan_scope.specs.Extended.{extended}
 use Rattle.plan_scope.specs.declared.edge.addition.Addition.{Addition}
 use Rattle.plan_scope.specs.declared.manifest.Manifest.{Manifest}
+use Rattle.plan_graph.specs.Files.{producer_in}
+use Rattle.plan_graph.specs.Graph.{IsGraph}
+use Rattle.plan_graph.specs.declared.graph_data.Graph.{Graph}
 use Rattle.plan_image.specs.declared.image.Parts.{Parts}
 use Rattle.plan_compile.specs.declared.baseline.OutOfDateRule.TheVariants.{Stricter}
 use Rattle.plan_machine.specs.Limits.{Limits}
@@ -17,6 +22,7 @@ use Rattle.plan_machine.specs.declared.event.Outcome.TheVariants.{Ran}
 use Rattle.plan_machine.specs.State.{outcome_at}
 use Rattle.plan_status.specs.Outcomes.{all_done}
 use Rattle.plan_status.specs.declared.fault.PrintFault.{PrintFault}
+use Rattle.plan_scan.specs.Scans.{HasNothingToDo}
 use Rattle.plan_lanes.specs.Journals.{Rule}
 use Rattle.plan_lanes.specs.Progress.{Opened}
 use Rattle.plan_lanes.specs.declared.board.Report.{Report}
@@ -26,6 +32,8 @@ use Rattle.plan_commands.specs.declared.building.Done.{Done}
 use Rattle.plan_commands.specs.declared.building.Done.TheVariants as done
 use Rattle.plan_commands.specs.declared.recorded_image.Compiled.{Compiled}
 use Rattle.plan_commands.specs.declared.recorded_image.Compiled.TheVariants as compiled
+use Rattle.plan_commands.specs.declared.recorded_image.Prepared.{Prepared}
+use Rattle.plan_commands.specs.declared.recorded_image.Prepared.TheVariants as prepared
 use Rattle.plan_commands.specs.declared.building.Round.{Round}
 use Rattle.plan_commands.specs.declared.building.Round.TheVariants as round
 use Rattle.plan_printing.specs.Faults.{no_memory}
@@ -68,6 +76,51 @@ pub record IsRead (gives : FileContents) (rule : Rule) (path : Text) (p : Parts)
 -- What a build knows to wait for: the manifest that was read, with what the record adds to it.
 abbrev pub manifest_in : {gives : FileContents} {rule : Rule} {path : Text} {p : Parts} → IsRead gives rule path p → Manifest
 manifest_in read = extended read.additions read.manifest
+
+-- ---- nothing is to do
+
+-- the edge that makes the file at a path of a command line, if there is one
+abbrev pub producer_or_none : Option ℕ → List ℕ
+producer_or_none (Some maker) = maker ∷ []
+producer_or_none None = []
+
+abbrev pub producers_of : Graph → Result Text TextFault → List ℕ
+producers_of g (Ok path) = producer_or_none (producer_in g.files path)
+producers_of g (Err fault) = []
+
+-- The edges that a build without named targets brings up to date: the defaults of its manifest, and the edge that makes
+-- the manifest at this path.
+abbrev pub all_targets : Graph → Text → List ℕ
+all_targets g path = g.defaults ++ producers_of g (canonical_of path)
+
+-- The record adds nothing to the manifest at this path, and each edge that these edges need is up to date.
+pub record NeedsNothing (rule : Rule) (m : Manifest) (path : Text) : Type 0 where
+  pub recorded : AreRecorded rule m []
+  pub graph : Graph
+  pub is_graph : IsGraph m graph
+  pub clean : HasNothingToDo rule m graph (all_targets graph path)
+
+abbrev pub unless_named : Text → List Text → Option Text
+unless_named path [] = Some path
+unless_named path (name ∷ names) = None
+
+-- the path of the manifest if the request names no targets, otherwise none
+abbrev pub path_of_all : Asked → Option Text
+path_of_all a = unless_named a.path a.names
+
+-- No targets are named, and nothing is to do for the manifest at this path.
+abbrev pub AllNeedNothing : Rule → Manifest → Option Text → Type 0
+AllNeedNothing rule m (Some path) = NeedsNothing rule m path
+AllNeedNothing rule m None = ⊥
+
+-- The request names no targets, and nothing is to do for a manifest. The files may hold the lines of this manifest, and
+-- none of these files is missing.
+pub record FindsNothingToDo (gives : FileContents) (rule : Rule) (a : Asked) : Type 0 where
+  pub lines : List TreeStatement
+  pub manifest : Manifest
+  pub loaded : LoadsFirst gives Nowhere a.path (Ok lines)
+  pub means : manifest_of lines ≡ Ok manifest
+  pub needs : AllNeedNothing rule manifest (path_of_all a)
 
 -- ---- the manifest is remade
 
@@ -193,6 +246,13 @@ pub record BuildsTargets (gives : FileContents) (shown : Shown) (rule : Rule) (a
   pub run : EndsPrinted shown rule (opened parts a.limits edges) report later new
   pub ends : EndsAs parts report d
 
+-- After fewer than 100 rounds, nothing is to do. Nothing more was printed.
+pub record EndsWithoutRun (gives : FileContents) (shown : Shown) (rule : Rule) (a : Asked) (old new : SinkState) : Type 0 where
+  pub rounds : ℕ
+  pub few : rounds < most_rounds
+  pub remade : Rounds gives shown rule a rounds old new
+  pub finds : FindsNothingToDo gives rule a
+
 -- After fewer than 100 rounds, the manifest's maker failed.
 pub record FailsToRemake (gives : FileContents) (shown : Shown) (rule : Rule) (a : Asked) (old new : SinkState) : Type 0 where
   pub rounds : ℕ
@@ -204,7 +264,7 @@ pub record FailsToRemake (gives : FileContents) (shown : Shown) (rule : Rule) (a
 -- How a build goes that ends in this way.
 abbrev pub Builds : FileContents → Shown → Rule → Asked → (old new : SinkState) → Done → Type 0
 Builds gives shown rule a old new done.Built = BuildsTargets gives shown rule a old new done.Built
-Builds gives shown rule a old new done.UpToDate = BuildsTargets gives shown rule a old new done.UpToDate
+Builds gives shown rule a old new done.UpToDate = BuildsTargets gives shown rule a old new done.UpToDate ⊎ EndsWithoutRun gives shown rule a old new
 Builds gives shown rule a old new done.Failed = BuildsTargets gives shown rule a old new done.Failed
 Builds gives shown rule a old new done.ManifestFails = FailsToRemake gives shown rule a old new
 Builds gives shown rule a old new done.NeverSettles = Rounds gives shown rule a most_rounds old new
@@ -289,10 +349,21 @@ IsNotTried number shown rule o old new fault = ((new ≡ old) × LacksMemory fau
 abbrev pub IsImageRecorded : Rule → Manifest → Parts → Type 0
 IsImageRecorded rule m p = (additions : List Addition) × AreRecorded rule m additions × IsImageOf Stricter (extended additions m) p
 
--- What a manifest compiles to, given the record.
-abbrev pub IsCompiled : Rule → Manifest → Compiled → Type 0
-IsCompiled rule m (compiled.Image p) = AreRecorded rule m [] × IsImageOf Stricter m p
-IsCompiled rule m (compiled.Lacks additions) = AreRecorded rule m additions.items
+-- What a manifest compiles to, given the record. If there is a path, it is found out whether nothing is to do.
+abbrev pub IsCompiled : Rule → Manifest → (all : Option Text) → Compiled → Type 0
+IsCompiled rule m all (compiled.Image p) = AreRecorded rule m [] × IsImageOf Stricter m p
+IsCompiled rule m all compiled.NothingToDo = AllNeedNothing rule m all
+IsCompiled rule m all (compiled.Lacks additions) = AreRecorded rule m additions.items
+
+-- What a manifest becomes: its image with what the record adds, or nothing is to do.
+abbrev pub IsPrepared : Rule → Manifest → (all : Option Text) → Prepared → Type 0
+IsPrepared rule m all (prepared.Image p) = IsImageRecorded rule m p
+IsPrepared rule m all prepared.NothingToDo = AllNeedNothing rule m all
+
+-- The same, of the manifest that was read.
+abbrev pub IsReadAs : FileContents → Rule → Asked → Prepared → Type 0
+IsReadAs gives rule a (prepared.Image p) = IsRead gives rule a.path p
+IsReadAs gives rule a prepared.NothingToDo = FindsNothingToDo gives rule a
 
 -- A manifest has no graph, or no image with what the record adds to it.
 abbrev pub LacksRecorded : Rule → Manifest → PlanFault → Type 0
@@ -311,10 +382,12 @@ abbrev pub IsRoundOf : Parts → ℕ → Report → Round → Type 0
 IsRoundOf p maker r (round.UpToDate q) = (q ≡ p) × (all_done p r.state.run_state.now ≡ true) × ((outcome_in r maker ≡ Some Ran) → ⊥)
 IsRoundOf p maker r round.Remade = (all_done p r.state.run_state.now ≡ true) × (outcome_in r maker ≡ Some Ran)
 IsRoundOf p maker r round.Failed = all_done p r.state.run_state.now ≡ false
+IsRoundOf p maker r round.NothingToDo = ⊥
 
 -- How a round goes that ends in this way.
 abbrev pub EndsRound : FileContents → Shown → Rule → Asked → (old new : SinkState) → Round → Type 0
 EndsRound gives shown rule a old new (round.UpToDate p) = IsRead gives rule a.path p × IsUpToDate shown rule a p old new
+EndsRound gives shown rule a old new round.NothingToDo = FindsNothingToDo gives rule a × (new ≡ old)
 EndsRound gives shown rule a old new round.Remade = Remakes gives shown rule a old new
 EndsRound gives shown rule a old new round.Failed = MakerFails gives shown rule a old new
 

@@ -10,7 +10,7 @@ use Rattle.plan_commands.specs.declared.building.Done.{Done}
 use Rattle.plan_commands.specs.declared.building.Done.TheVariants as done
 use Rattle.plan_commands.specs.Images.{SinkState}
 use Rattle.plan_commands.specs.Showing.{Shown}
-use Rattle.plan_commands.specs.Building.{Asked, IsRead, IsUpToDate, Remakes, MakerFails, RunsTargets, RoundStops, LastRunStops}
+use Rattle.plan_commands.specs.Building.{Asked, FindsNothingToDo, IsRead, IsUpToDate, Remakes, MakerFails, RunsTargets, RoundStops, LastRunStops}
 
 -- The rule of a world in which no command runs. Replies about files and the record are allowed by another rule. Each
 -- command ends with status 0 and leaves no depfile, and each entry is kept. Depfiles are read only before the run, under
@@ -34,7 +34,7 @@ pub record PreviewsTargets (gives : FileContents) (shown : Shown) (rule : Rule) 
 -- the manifest's maker.
 abbrev pub Previews : FileContents → Shown → Rule → Asked → (old new : SinkState) → Done → Type 0
 Previews gives shown rule a old new done.Built = Remakes gives shown rule a old new ⊎ PreviewsTargets gives shown rule a old new done.Built
-Previews gives shown rule a old new done.UpToDate = PreviewsTargets gives shown rule a old new done.UpToDate
+Previews gives shown rule a old new done.UpToDate = PreviewsTargets gives shown rule a old new done.UpToDate ⊎ (FindsNothingToDo gives rule a × (new ≡ old))
 Previews gives shown rule a old new done.Failed = PreviewsTargets gives shown rule a old new done.Failed
 Previews gives shown rule a old new done.ManifestFails = MakerFails gives shown rule a old new
 Previews gives shown rule a old new done.NeverSettles = ⊥

@@ -1,6 +1,6 @@
 //! Builds the targets of a manifest: reads the manifest, remakes it if it is out of date, and runs its image.
 
-ghost use Rattle.std.specs.Prelude.{◌≡◌, ◌⊎◌, IfErr, IfNone, IfOk, IfSome, None, OnOk, Ok, false, map, true, ◌∷◌, []};
+ghost use Rattle.std.specs.Prelude.{◌≡◌, ◌⊎◌, IfErr, IfNone, IfOk, IfSome, None, OnOk, Ok, false, map, option_map, true, ◌∷◌, []};
 ghost use Rattle.std.specs.Result.{result_err};
 ghost use Rattle.plan_scope.specs.Loading.{IsMissing};
 ghost use Rattle.plan_scope.specs.Sources.{SameFiles};
@@ -11,7 +11,7 @@ ghost use Rattle.plan_lanes.specs.Faults.{FaultReports};
 ghost use Rattle.plan_lanes.specs.Reports.{IsRunOf};
 ghost use Rattle.plan_printing.specs.Faults as faults;
 ghost use Rattle.plan_commands.specs.Building as defined;
-ghost use Rattle.plan_commands.specs.Building.{Builds, EndsAs, EndsRound, HasRun, HasRunNothing, IsLost, IsNotRead, IsNotRun, IsNotTried, IsRead, IsRoundOf, RoundStops, RunsTargets, Stops, TargetsStop};
+ghost use Rattle.plan_commands.specs.Building.{Builds, EndsAs, EndsRound, HasRun, HasRunNothing, IsLost, IsNotRead, IsNotRun, IsNotTried, IsReadAs, IsRoundOf, RoundStops, RunsTargets, Stops, TargetsStop};
 ghost use Rattle.plan_commands.specs.NeededFiles.{HasSources};
 ghost use Rattle.plan_commands.specs.Running.{EndsPrinted, report_in};
 ghost use Rattle.plan_commands.specs.Showing.{IsShown, by_format};
@@ -20,7 +20,7 @@ use crate::commands::manifest_at;
 use crate::explaining::{Explained, Explainer};
 use crate::kept::Kept;
 use crate::printed_runs::{Printer, RunResult, run_and_show};
-use crate::recorded_image::image_recorded;
+use crate::recorded_image::{Prepared, image_recorded};
 use crate::running::{printed_lane_fault, printed_print_fault};
 use crate::sources::check_sources;
 use crate::targets::targets_of;
@@ -79,30 +79,41 @@ impl Done {
 /// The largest number of times that a manifest is remade.
 const MOST_ROUNDS: u32 = 100;
 
-/// Reads the manifest at a path, adds what the record adds to it, and returns its image. Keeps the parts of the
-/// manifest that the build needs.
+/// Returns the path of the manifest if no targets are named.
+fn path_of_all<'a>(order: &Order<'a>) -> Option<&'a [u8]>
+    ensures { option_map (λ p. p.now) result ≡ defined.path_of_all (defined.asked order.now.manifest.now order.now.options (map (λ n. n.now) order.now.targets.now)) }
+{
+    match order.targets {
+        [] => Some(order.manifest),
+        [_first, ..] => None,
+    }
+}
+
+/// Reads the manifest of an order, adds what the record adds to it, and returns its image, unless nothing is to do. Keeps
+/// the parts of the manifest that the build needs.
 fn read_image<S: Source, W: World + Send + Sync, R: Threads + Sync>(
     rt: &R,
     alloc: Global,
     source: &mut S,
-    path: &[u8],
+    order: &Order<'_>,
     world: &W,
     kept: &mut Kept,
-) -> Result<Verified, PlanFault>
-    ensures read { IfOk result (λ p. IsRead (S.gives source.old) W.allows path.now p) }
+) -> Result<Prepared, PlanFault>
+    ensures read { let a = defined.asked order.now.manifest.now order.now.options (map (λ n. n.now) order.now.targets.now) in
+        IfOk result (λ x. IsReadAs (S.gives source.old) W.allows a x) }
     ensures whole { OnOk result (S.failures source.new ≡ S.failures source.old) }
     ensures same { SameFiles (S.gives source.new) (S.fails source.new) (S.gives source.old) (S.fails source.old) }
     ensures refused { let missing = IsMissing (S.gives source.old) (S.fails source.old) (S.failures source.old) (S.failures source.new) in
-        IfErr result (λ fault. IsNotRead (S.gives source.old) missing W.allows path.now fault) }
+        IfErr result (λ fault. IsNotRead (S.gives source.old) missing W.allows order.now.manifest.now fault) }
 {
-    let mut manifest = match manifest_at(alloc, source, path) {
+    let mut manifest = match manifest_at(alloc, source, order.manifest) {
         Ok(manifest) => manifest,
         Err(fault) => return Err(fault),
     };
     loaded_manifests_are_sound::<S>();
-    let image = image_recorded(rt, alloc, world, &mut manifest);
+    let prepared = image_recorded(rt, alloc, world, &mut manifest, path_of_all(order));
     kept.keep::<W>(alloc, manifest);
-    image
+    prepared
 }
 
 /// Returns the edge that makes the manifest at this path, if there is one.
@@ -249,6 +260,8 @@ pub(crate) enum Round {
     Failed,
     /// The manifest is up to date. This is its image.
     UpToDate(Verified),
+    /// The manifest and all its default targets are up to date.
+    NothingToDo,
 }
 
 /// Returns how a round ended, from the report of the run of the manifest's maker.
@@ -270,7 +283,8 @@ fn round_of(image: Verified, maker: u32, report: Report) -> Round
     Round::Remade
 }
 
-/// Reads the manifest, runs the edge that makes it, if there is one, and returns how the round ended.
+/// Reads the manifest, and runs the edge that makes it, if there is one, unless nothing is to do. Returns how the round
+/// ended.
 pub(crate) fn update_manifest<
     S: Source,
     W: World + Send + Sync,
@@ -296,8 +310,9 @@ pub(crate) fn update_manifest<
         (kept : F.Kept) → F.kept printer.format ≡ kept → IfErr result.0 (λ fault. RoundStops (S.gives source.old) missing (by_format F.kept F.tells kept) W.allows a (O.failures printer.out, O.taken printer.out) (O.failures result.1.out, O.taken result.1.out) fault) }
     ensures format { F.kept result.1.format ≡ F.kept printer.format }
 {
-    let image = match read_image::<S, W, R>(rt, alloc, source, order.manifest, world, kept) {
-        Ok(image) => image,
+    let image = match read_image::<S, W, R>(rt, alloc, source, order, world, kept) {
+        Ok(Prepared::Image(image)) => image,
+        Ok(Prepared::NothingToDo) => return (Ok(Round::NothingToDo), printer),
         Err(fault) => return (Err(fault), printer),
     };
     let maker = match maker_of(alloc, image.image(), order.manifest) {
@@ -448,6 +463,7 @@ fn build_in_rounds<
         match round {
             Ok(Round::Remade) => {}
             Ok(Round::Failed) => return (Ok(Done::ManifestFails), printer),
+            Ok(Round::NothingToDo) => return (Ok(Done::UpToDate), printer),
             Ok(Round::UpToDate(image)) => {
                 return build_targets(
                     rt,
@@ -472,7 +488,8 @@ fn build_in_rounds<
 /// The manifest is read and compiled. If an edge makes the manifest, that edge runs first, with all edges that it
 /// needs. Each time that its command ran, the manifest is read again, at most 100 times (the Ninja manual, "The build
 /// file": a build statement may have the manifest as its output). Then the image of the last manifest is run for the
-/// targets. If the world observes edges, the world gets the reason of each command (`World::explain`).
+/// targets. If the world observes edges, the world gets the reason of each command (`World::explain`). If no targets are
+/// named, and the manifest and all its defaults are up to date, no image is compiled, and nothing runs.
 ///
 /// # Errors
 /// - The manifest, or a file that it includes, is missing or refused, or it has no graph or no image: as in

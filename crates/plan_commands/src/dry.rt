@@ -9,13 +9,13 @@ ghost use Rattle.plan_commands.specs.Showing.{by_format};
 use crate::building::{Done, Order, Round, build_targets, update_manifest};
 use crate::kept::Kept;
 use crate::printed_runs::Printer;
-use plan_lanes::{Permit, World};
+use crate::remade::Remade;
+use plan_lanes::{KeepOrder, Permit, World};
 use plan_machine::Reply;
 use plan_printing::PlanFault;
 use plan_scope::Source;
 use plan_status::Format;
 use plan_text::{PathFilter, RowList, Sink};
-use plan_verify::PathList;
 use std::alloc::{AllocError, Global};
 use std::sync::{Mutex, Wait};
 use std::thread::{Parker, Threads};
@@ -32,13 +32,15 @@ pub struct Listed {
 
 /// A world that runs no commands and keeps no entries. It asks another world for files and the record, and for the
 /// depfiles that are read before a run. It replies to each command that it ended with status 0, to each read of its
-/// depfile that it is missing, and to each entry that it is kept.
+/// depfile that it is missing, and to each entry that it is kept. The entry of an edge ends if its last command read a
+/// file that a listed command makes: the file would change.
 #[derive(Drop)]
 struct DryWorld<'a, R, W> {
     rt: &'a R,
     world: &'a W,
     /// The edges whose commands were listed, in the order in which they asked.
     edges: Mutex<Vec<u32>>,
+    remade: Remade,
 }
 
 impl<R: Wait, W: World> World for DryWorld<'_, R, W> {
@@ -66,7 +68,11 @@ impl<R: Wait, W: World> World for DryWorld<'_, R, W> {
         self.world.stat_ahead(path)
     }
 
+    /// No edge asks under the number 0.
     fn recall(&self, number: u64, output: &[u8]) -> Result<Reply, AllocError> {
+        if number > 0 {
+            self.end_if_remade(output)?;
+        }
         self.world.recall(number, output)
     }
 
@@ -76,7 +82,13 @@ impl<R: Wait, W: World> World for DryWorld<'_, R, W> {
         output: &[u8],
         wanted: &PathFilter,
     ) -> Result<Option<RowList<u8>>, AllocError> {
-        self.world.recorded_among(alloc, output, wanted)
+        match self.world.recorded_among(alloc, output, wanted)? {
+            Some(paths) => {
+                self.remade.add_read(self.rt, output, &paths)?;
+                Ok(Some(paths))
+            }
+            None => Ok(None),
+        }
     }
 
     fn begun_among(
@@ -119,12 +131,12 @@ impl<R: Wait, W: World> World for DryWorld<'_, R, W> {
     fn run(
         &self,
         _number: u64,
-        _command: &[u8],
-        _outputs: &RowList<u8>,
+        outputs: &RowList<u8>,
         permit: Permit,
     ) -> Result<Reply, AllocError> {
         let edge = permit.edge();
         permit.spend();
+        self.remade.add_made(self.rt, outputs)?;
         self.edges.lock(self.rt).push(edge)?;
         Ok(Reply::Exit(0))
     }
@@ -137,15 +149,24 @@ impl<R: Wait, W: World> World for DryWorld<'_, R, W> {
         Ok(Reply::Nothing)
     }
 
-    fn keep(
-        &self,
-        _number: u64,
-        _output: &[u8],
-        _command: &[u8],
-        _basis: u64,
-        _paths: &PathList,
-    ) -> Result<Reply, AllocError> {
+    fn keep(&self, _number: u64, _order: &KeepOrder) -> Result<Reply, AllocError> {
         Ok(Reply::Kept)
+    }
+}
+
+/// The reason why an edge would run, after the path of a file that it reads.
+const WILL_CHANGE: &[u8] = b" is made again by a command before this one";
+
+impl<R: Wait, W: World> DryWorld<'_, R, W> {
+    /// Ends the entry of an output's edge if its last command read a file that a listed command makes.
+    fn end_if_remade(&self, output: &[u8]) -> Result<(), AllocError> {
+        match self.remade.first_read(self.rt, output)? {
+            Some(mut words) => {
+                words.extend_from_slice(WILL_CHANGE)?;
+                self.world.forget(output, &words)
+            }
+            None => Ok(()),
+        }
     }
 }
 
@@ -189,6 +210,7 @@ fn build_dry<
     match round {
         Ok(Round::Remade) => (Ok(Done::Built), printer),
         Ok(Round::Failed) => (Ok(Done::ManifestFails), printer),
+        Ok(Round::NothingToDo) => (Ok(Done::UpToDate), printer),
         Ok(Round::UpToDate(image)) => build_targets(
             rt,
             alloc,
@@ -205,8 +227,9 @@ fn build_dry<
 
 /// Prints the marks of a build of a manifest's targets by a format, but runs no command and keeps no entry. Asks the
 /// world only for files and the record. Each command counts as one that ended with status 0, and leaves its outputs as
-/// they are. So an edge that uses outputs of a `restat` edge is listed only if it is out of date already. Returns how
-/// the build ended, the printer, and the numbers of commands that were listed.
+/// they are. So an edge that uses outputs of a `restat` edge is listed only if it is out of date already, unless only
+/// its entry names the output: then it is listed. Returns how the build ended, the printer, and the numbers of commands
+/// that were listed.
 ///
 /// If the command of the edge that makes the manifest would run, the build ends after it, as `Built`: the content of
 /// the new manifest isn't known. The build never ends as `NeverSettles`.
@@ -240,6 +263,7 @@ pub fn do_dry_build<
         rt,
         world,
         edges: Mutex::new(Vec::new(alloc)),
+        remade: Remade::new(alloc),
     };
     let mut kept = Kept::new(true);
     let (done, printer) = build_dry(rt, alloc, source, order, &dry, &mut kept, parker, printer);

@@ -18,7 +18,7 @@ ghost use Rattle.plan_commands.specs.Explaining.{Explains, Says, SaysReason, new
 use crate::compile_fault::printed_compile_fault;
 use crate::compiling::graph_of;
 use plan_compile::{CommandLayout, EdgeLayout, OutOfDateRule, layouts};
-use plan_lanes::{Observed, Permit, World};
+use plan_lanes::{KeepOrder, Observed, Permit, World};
 use plan_machine::{LoadedSlot, Recorded, Reply};
 use plan_printing::PlanFault;
 use plan_reasons::{Finding, LentSlots, Names, Observed as Seen, Reason, reason_for, sentence};
@@ -304,19 +304,14 @@ impl<'a, W: World> Explained<'a, W> {
     }
 
     /// Passes the reason why a command is going to run to the world.
-    fn tell(
-        &self,
-        command: &[u8],
-        outputs: &RowList<u8>,
-        permit: &Permit,
-    ) -> Result<(), AllocError> {
+    fn tell(&self, outputs: &RowList<u8>, permit: &Permit) -> Result<(), AllocError> {
         let Some(observed) = permit.observed() else {
             return Ok(());
         };
         let edge = permit.edge();
         let reason = self
             .explainer
-            .explain(self.alloc, edge, command, outputs, observed)?;
+            .explain(self.alloc, edge, permit.command(), outputs, observed)?;
         if let Some(reason) = reason {
             self.world.explain(outputs.row(0), &reason);
         }
@@ -409,32 +404,19 @@ impl<W: World> World for Explained<'_, W> {
         self.world.explain(edge, reason);
     }
 
-    fn run(
-        &self,
-        number: u64,
-        command: &[u8],
-        outputs: &RowList<u8>,
-        permit: Permit,
-    ) -> Result<Reply, AllocError> {
-        if let Err(error) = self.tell(command, outputs, &permit) {
+    fn run(&self, number: u64, outputs: &RowList<u8>, permit: Permit) -> Result<Reply, AllocError> {
+        if let Err(error) = self.tell(outputs, &permit) {
             permit.spend();
             return Err(error);
         }
-        self.world.run(number, command, outputs, permit)
+        self.world.run(number, outputs, permit)
     }
 
     fn read_depfile(&self, number: u64, path: &[u8]) -> Result<Reply, AllocError> {
         self.world.read_depfile(number, path)
     }
 
-    fn keep(
-        &self,
-        number: u64,
-        output: &[u8],
-        command: &[u8],
-        basis: u64,
-        paths: &PathList,
-    ) -> Result<Reply, AllocError> {
-        self.world.keep(number, output, command, basis, paths)
+    fn keep(&self, number: u64, order: &KeepOrder) -> Result<Reply, AllocError> {
+        self.world.keep(number, order)
     }
 }

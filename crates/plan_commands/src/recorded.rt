@@ -90,7 +90,10 @@ fn depfile_paths<'a, W: World>(
 }
 
 /// Returns the paths of two lists, those of the first one first.
-fn both_paths(mut first: RowList<u8>, second: &RowList<u8>) -> Result<RowList<u8>, AllocError>
+pub(crate) fn both_paths(
+    mut first: RowList<u8>,
+    second: &RowList<u8>,
+) -> Result<RowList<u8>, AllocError>
     ensures { IfOk result (λ all. all ≡ first ++ second.now) }
 {
     for number in 0..second.len() {

@@ -1,13 +1,13 @@
 //! Compiles a manifest with what the record adds to it.
 
-ghost use Rattle.std.specs.Prelude.{◌≡◌, ◌≤◌, ◌⊎◌, IfErr, IfOk, length};
+ghost use Rattle.std.specs.Prelude.{◌≡◌, ◌≤◌, ◌⊎◌, [], IfErr, IfOk, length, option_map, true};
 ghost use Rattle.std.specs.Thread.{IsSend, IsSync};
 ghost use Rattle.plan_scope.specs.Extended.{AreSoundFor, extended};
 ghost use Rattle.plan_scope.specs.Sound.{IsSound};
 ghost use Rattle.plan_graph.specs.Graph.{IsGraph, max_edges};
 ghost use Rattle.plan_compile.specs.Collected.{AreNames};
 ghost use Rattle.plan_compile.specs.declared.baseline.OutOfDateRule.TheVariants as OutOfDateRule;
-ghost use Rattle.plan_commands.specs.Building.{IsCompiled, IsImageRecorded, LacksRecorded};
+ghost use Rattle.plan_commands.specs.Building.{AllNeedNothing, IsCompiled, IsPrepared, LacksRecorded};
 ghost use Rattle.plan_commands.specs.Commands.{LacksGraph};
 ghost use Rattle.plan_commands.specs.Compiling.{IsImageOf, LacksImageOf};
 ghost use Rattle.plan_commands.specs.Recorded.{AreRecalled, AreRecorded};
@@ -15,6 +15,7 @@ ghost use Rattle.plan_printing.specs.Faults as faults;
 
 use crate::compiling::{FEW_EDGES, graph_and_names, graph_of, image_by, image_with};
 use crate::foreign::{check_by_four, check_entries};
+use crate::idle::needs_nothing;
 use crate::others::tell_others;
 use crate::recorded::{needed_inputs, recalled_by_two, recalled_paths};
 use plan_compile::{EdgeNames, OutOfDateRule, collect_names};
@@ -31,8 +32,18 @@ use std::thread::{Threads, join};
 pub(crate) enum Compiled {
     /// The record adds nothing to the manifest. This is its image.
     Image(Image),
+    /// The record adds nothing to the manifest, and nothing is to do.
+    NothingToDo,
     /// The record adds this to the manifest.
     Lacks(Vec<Addition>),
+}
+
+/// The result of reading a manifest.
+pub(crate) enum Prepared {
+    /// Its image, with what the record adds to it.
+    Image(Verified),
+    /// Nothing is to do.
+    NothingToDo,
 }
 
 /// Returns the reason why a manifest of more edges than a graph may have has no graph.
@@ -187,8 +198,54 @@ fn additions_of<'a, W: World>(
     }
 }
 
-/// Compiles a manifest by its graph and its names, unless the record adds something to it.
-fn compile_with_graph<'a, R: Threads + Sync, W: World>(
+/// Checks whether nothing is to do, if there is a path: that of a manifest whose build names no targets.
+fn all_need_nothing<'a, R: Threads + Sync, W: World + Send + Sync>(
+    rt: &R,
+    alloc: Global,
+    world: &W,
+    manifest: &Manifest,
+    graph: &Graph<'a>,
+    all: Option<&[u8]>,
+) -> Result<bool, AllocError>
+    requires graph { IsGraph manifest.now graph.now }
+    requires recorded { AreRecorded W.allows manifest.now [] }
+    ensures { IfOk result (λ nothing. nothing ≡ true → AllNeedNothing W.allows manifest.now (option_map (λ p. p.now) all.entry)) }
+{
+    match all {
+        Some(path) => needs_nothing(rt, alloc, world, manifest, graph, path),
+        None => Ok(false),
+    }
+}
+
+/// Compiles a manifest to which the record adds nothing, by its graph and its names, unless nothing is to do.
+fn compile_alone<'a, R: Threads + Sync, W: World + Send + Sync>(
+    rt: &R,
+    alloc: Global,
+    world: &W,
+    manifest: &'a Manifest,
+    graph: Graph<'a>,
+    names: Result<EdgeNames<'a>, AllocError>,
+    all: Option<&[u8]>,
+) -> Result<Compiled, PlanFault>
+    requires sound { IsSound manifest.now }
+    requires graph { IsGraph manifest.now graph }
+    requires names { IfOk names (AreNames manifest.now.edges) }
+    requires recorded { AreRecorded W.allows manifest.now [] }
+    ensures compiled { IfOk result (λ c. IsCompiled W.allows manifest.now (option_map (λ p. p.now) all.entry) c) }
+    ensures refused { IfErr result (λ fault. LacksRecorded W.allows manifest.now fault) }
+{
+    match all_need_nothing(rt, alloc, world, manifest, &graph, all) {
+        Ok(true) => Ok(Compiled::NothingToDo),
+        Ok(false) => match image_with(rt, alloc, manifest, graph, names, OutOfDateRule::Stricter) {
+            Ok(image) => Ok(Compiled::Image(image)),
+            Err(fault) => Err(fault),
+        },
+        Err(_) => Err(no_memory(alloc)),
+    }
+}
+
+/// Compiles a manifest by its graph and its names, unless the record adds something to it or nothing is to do.
+fn compile_with_graph<'a, R: Threads + Sync, W: World + Send + Sync>(
     rt: &R,
     alloc: Global,
     world: &W,
@@ -196,12 +253,13 @@ fn compile_with_graph<'a, R: Threads + Sync, W: World>(
     graph: Graph<'a>,
     names: Result<EdgeNames<'a>, AllocError>,
     recalled: Result<Vec<Addition>, AllocError>,
+    all: Option<&[u8]>,
 ) -> Result<Compiled, PlanFault>
     requires sound { IsSound manifest.now }
     requires graph { IsGraph manifest.now graph }
     requires names { IfOk names (AreNames manifest.now.edges) }
     requires recalled { IfOk recalled (λ a. AreRecalled W.allows manifest.now.edges a.items) }
-    ensures compiled { IfOk result (λ c. IsCompiled W.allows manifest.now c) }
+    ensures compiled { IfOk result (λ c. IsCompiled W.allows manifest.now (option_map (λ p. p.now) all.entry) c) }
     ensures refused { IfErr result (λ fault. LacksRecorded W.allows manifest.now fault) }
 {
     let additions = match additions_of(alloc, world, manifest, &graph, recalled) {
@@ -211,21 +269,19 @@ fn compile_with_graph<'a, R: Threads + Sync, W: World>(
     if !additions.is_empty() {
         return Ok(Compiled::Lacks(additions));
     }
-    match image_with(rt, alloc, manifest, graph, names, OutOfDateRule::Stricter) {
-        Ok(image) => Ok(Compiled::Image(image)),
-        Err(fault) => Err(fault),
-    }
+    compile_alone(rt, alloc, world, manifest, graph, names, all)
 }
 
-/// Compiles a manifest, unless the record adds something to it.
+/// Compiles a manifest, unless the record adds something to it or nothing is to do.
 fn compile_recorded<R: Threads + Sync, W: World + Send + Sync>(
     rt: &R,
     alloc: Global,
     world: &W,
     manifest: &Manifest,
+    all: Option<&[u8]>,
 ) -> Result<Compiled, PlanFault>
     requires { IsSound manifest.now }
-    ensures compiled { IfOk result (λ c. IsCompiled W.allows manifest.now c) }
+    ensures compiled { IfOk result (λ c. IsCompiled W.allows manifest.now (option_map (λ p. p.now) all.entry) c) }
     ensures refused { IfErr result (λ fault. LacksRecorded W.allows manifest.now fault) }
 {
     if manifest.edges.len() > MAX_EDGES {
@@ -233,7 +289,7 @@ fn compile_recorded<R: Threads + Sync, W: World + Send + Sync>(
     }
     let ((graph, names), recalled) = graph_and_paths(rt, alloc, world, manifest);
     match graph {
-        Ok(graph) => compile_with_graph(rt, alloc, world, manifest, graph, names, recalled),
+        Ok(graph) => compile_with_graph(rt, alloc, world, manifest, graph, names, recalled, all),
         Err(fault) => Err(fault),
     }
 }
@@ -262,21 +318,29 @@ fn compile_extended<R: Threads + Sync>(
 }
 
 /// Adds to a manifest what the record adds to it, and compiles it into an image with the stricter out-of-date rule. The
-/// image isn't verified again, since the verifier accepts each image that the compiler makes.
+/// image isn't verified again, since the verifier accepts each image that the compiler makes. `all` is the path of the
+/// manifest if the build names no targets. If nothing is to do then, nothing is compiled.
 pub(crate) fn image_recorded<R: Threads + Sync, W: World + Send + Sync>(
     rt: &R,
     alloc: Global,
     world: &W,
     manifest: &mut Manifest,
-) -> Result<Verified, PlanFault>
+    all: Option<&[u8]>,
+) -> Result<Prepared, PlanFault>
     requires { IsSound manifest.old }
-    ensures image { IfOk result (λ image. IsImageRecorded W.allows manifest.old image) }
+    ensures prepared { IfOk result (λ x. IsPrepared W.allows manifest.old (option_map (λ p. p.now) all.entry) x) }
     ensures sound { IsSound manifest.new }
     ensures refused { IfErr result (λ fault. LacksRecorded W.allows manifest.old fault) }
 {
-    match compile_recorded(rt, alloc, world, &*manifest) {
-        Ok(Compiled::Image(image)) => Ok(Verified::of_shaped(image)),
-        Ok(Compiled::Lacks(additions)) => compile_extended(rt, alloc, manifest, &additions),
+    match compile_recorded(rt, alloc, world, &*manifest, all) {
+        Ok(Compiled::Image(image)) => Ok(Prepared::Image(Verified::of_shaped(image))),
+        Ok(Compiled::NothingToDo) => Ok(Prepared::NothingToDo),
+        Ok(Compiled::Lacks(additions)) => {
+            match compile_extended(rt, alloc, manifest, &additions) {
+                Ok(image) => Ok(Prepared::Image(image)),
+                Err(fault) => Err(fault),
+            }
+        }
         Err(fault) => Err(fault),
     }
 }

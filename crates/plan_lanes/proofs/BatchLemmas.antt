@@ -16,6 +16,7 @@ use Rattle.plan_lanes.specs.declared.board.Advance.TheVariants as advance
 use Rattle.plan_lanes.specs.declared.board.Permit.{Permit}
 use Rattle.plan_lanes.specs.declared.lanes.BatchEnd.TheVariants as taken
 use Rattle.plan_lanes.specs.Batches.{Gathers, Held, RunNothing, Takes, held}
+use Rattle.plan_lanes.specs.Permits.{IsPermitted, PermittedRun, permitted_run}
 use Rattle.plan_lanes.specs.Proceeds.{AsksLast, CanOnlyWait, MovesOn, Proceeds, asking}
 use Rattle.plan_lanes.specs.Progress.{Opened, Progress}
 use Rattle.plan_lanes.specs.Questions.{is_run, shown}
@@ -108,11 +109,12 @@ module _ (a b c : Progress) (before after : List Held) (sofar : Gathers a b befo
     }
 
   -- what a lane took at last
-  pub takes_run : (e : ℕ) (question : Question) (permit : Permit) → Proceeds b c (advance.Job e question (Some permit)) → Takes a c before after (taken.Run e question permit)
-  takes_run e question permit h =
-      let is : is_run (shown question.request) ≡ true = sym h.1.0 in
-      let console : permit.console ≡ is_console c.opened.parts e = subst (λ (o : Opened). permit.console ≡ is_console o.parts e) (sym h.0.applies.opened) h.1.1 in
-      (gathers_asked e question.number (shown question.request) h.0, h.0.question, is, console)
+  pub takes_run : (e : ℕ) (question : Question) (permit : Permit) (order : PermittedRun) → order ≡ permitted_run e question.number (shown question.request) permit.console → Proceeds b c (advance.Job e question (Some permit))
+      → Takes a c before after (taken.Run order)
+  takes_run e question permit order is h =
+      let run : is_run (shown question.request) ≡ true = sym h.1.0 in
+      let console : permit.console ≡ is_console c.opened.parts e = subst (λ (o : Opened). permit.console ≡ is_console o.parts e) (sym h.0.applies.opened) h.1.1.2 in
+      subst (λ (o : PermittedRun). Takes a c before after (taken.Run o)) (sym is) (gathers_asked e question.number (shown question.request) h.0, h.0.question, run, console)
 
   pub takes_held : (e : ℕ) (question : Question) → Proceeds b c (advance.Job e question None) → (longer : List Held) → longer ≡ after ++ held e question.number (shown question.request) ∷ [] → Gathers a c before longer []
   takes_held e question h longer is = gathers_held e question.number (shown question.request) h.0 longer is (sym h.1.0)
@@ -125,3 +127,6 @@ module _ (a b c : Progress) (before after : List Held) (sofar : Gathers a b befo
 
   pub takes_nothing : GoesOn b c → Takes a c before after taken.NoMemory
   takes_nothing h = goes_on a b c (record { events = sofar.events; told = sofar.told; applies = sofar.applies }) h
+
+pub permitted : (b c : Progress) (e : ℕ) (question : Question) (permit : Permit) → Proceeds b c (advance.Job e question (Some permit)) → IsPermitted e (shown question.request) permit
+permitted b c e question permit h = (sym h.1.0, h.1.1.0, h.1.1.1)

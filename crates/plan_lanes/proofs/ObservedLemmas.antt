@@ -22,11 +22,12 @@ use Rattle.plan_machine.specs.declared.event.Mark.TheVariants as mark
 use Rattle.plan_machine.specs.declared.event.reply.Reply.{Reply}
 use Rattle.plan_machine.specs.declared.run.loads.LoadedSlot.{LoadedSlot}
 use Rattle.plan_lanes.specs.declared.board.Permit.{Permit}
+use Rattle.plan_lanes.specs.declared.board.PermitParts.{PermitParts}
 use Rattle.plan_lanes.specs.declared.observed.Observed.{Observed}
 use Rattle.plan_lanes.specs.Boards.{Applies}
 use Rattle.plan_lanes.specs.Observations.{observed_by, observed_if}
+use Rattle.plan_lanes.specs.Permits.{AreParts, Permits, permit_of}
 use Rattle.plan_lanes.specs.Progress.{Opened, Progress}
-use Rattle.plan_lanes.specs.Questions.{is_run}
 use Rattle.plan_lanes.proofs.ListLemmas.{when_either}
 
 -- ---- an event that asks changes no slot
@@ -110,9 +111,13 @@ pub stays_observed : (observes : Bool) (old new : Progress) (event : Event) (tol
 stays_observed true old new event told f e own applies asked = ap (λ (o : Observed). Some o) (sym (observed_same old new event told f e own applies asked))
 stays_observed false old new event told f e own applies asked = refl
 
--- ---- a permit has it
+-- ---- a permit of its parts
 
-pub permit_observes : (permit : Option Permit) (e : ℕ) (q : Request) (seen now : Option Observed) → is_some permit ≡ is_run q → IfSome permit (λ x. x.edge ≡ e) → IfSome permit (λ x. x.observed ≡ seen)
-    → (is_run q ≡ true → seen ≡ now) → IfSome permit (λ x. (x.edge ≡ e) × (x.observed ≡ now))
-permit_observes None e q seen now run edge observed is = tt
-permit_observes (Some permit) e q seen now run edge observed is = (edge, observed ∙ is (sym run))
+pub permits_of : (observes : Bool) (b : Progress) (p : Parts) (e : ℕ) (q : Request) (parts : Option PermitParts) (permit : Option Permit) → AreParts observes b e q parts → permit ≡ permit_of p e parts → Permits p e q permit
+permits_of observes b p e q None permit are is = subst (Permits p e q) (sym is) (sym are, tt)
+permits_of observes b p e q (Some parts) permit are is = subst (Permits p e q) (sym is) (sym are.0, (refl, are.1, refl))
+
+pub observes_of : (observes : Bool) (b : Progress) (now : Option Observed) (p : Parts) (e : ℕ) (q : Request) (parts : Option PermitParts) (permit : Option Permit) → AreParts observes b e q parts → observed_if observes b e ≡ now → permit ≡ permit_of p e parts
+    → IfSome permit (λ x. (x.edge ≡ e) × (x.observed ≡ now))
+observes_of observes b now p e q None permit are same is = subst (λ (o : Option Permit). IfSome o (λ x. (x.edge ≡ e) × (x.observed ≡ now))) (sym is) tt
+observes_of observes b now p e q (Some parts) permit are same is = subst (λ (o : Option Permit). IfSome o (λ x. (x.edge ≡ e) × (x.observed ≡ now))) (sym is) (refl, are.2 ∙ same)

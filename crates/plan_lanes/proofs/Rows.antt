@@ -5,7 +5,7 @@ use Rattle.plan_image.specs.declared.body.Instr.TheVariants as op
 use Rattle.plan_image.specs.declared.image.Sort.TheVariants as sort
 use Rattle.plan_image.specs.declared.image.EdgeCode.TheVariants.{Own}
 use Rattle.plan_image.specs.declared.image.Parts.{Parts}
-use Rattle.plan_verify.specs.Turn.{Run, Stat, turn}
+use Rattle.plan_verify.specs.Turn.{Keep, Run, Stat, turn}
 use Rattle.plan_machine.specs.declared.event.reply.Reply.TheVariants as reply
 use Rattle.plan_machine.specs.declared.event.Event.{Event}
 use Rattle.plan_machine.specs.declared.event.Event.TheVariants.{Start, Step, Reply as Hear}
@@ -18,6 +18,7 @@ use Rattle.plan_lanes.specs.declared.board.Report.{Report}
 use Rattle.plan_lanes.specs.declared.fault.LaneFault.TheVariants.{NoLane}
 use Rattle.plan_lanes.specs.Faults.{number_of}
 use Rattle.plan_lanes.specs.Journals.{Rule, IsLastOf, IsAllowed}
+use Rattle.plan_lanes.specs.Permits.{IsPermitted}
 use Rattle.plan_lanes.specs.Proceeds as proceeds
 use Rattle.plan_lanes.specs.Progress.{Progress, opened_with}
 use Rattle.plan_lanes.specs.Questions.{is_run, shown}
@@ -35,6 +36,17 @@ sweep_asks_for_one = refl
 
 run_is_one : shown (asked.Run (120 ∷ []) ((97 ∷ []) ∷ [])) ≡ Run (120 ∷ []) ((97 ∷ []) ∷ [])
 run_is_one = refl
+
+-- an order to keep an entry asks for just this entry
+order_is_shown : shown (asked.Keep (record { output = 97 ∷ []; command = 120 ∷ []; basis = 7; paths = (98 ∷ []) ∷ [] })) ≡ Keep (97 ∷ []) (120 ∷ []) 7 ((98 ∷ []) ∷ [])
+order_is_shown = refl
+
+same_byte : (n m : ℕ) → n ∷ [] ≡ m ∷ [] → n ≡ m
+same_byte n m same = cc
+
+-- a permit for the command `y` is none for a question to run `x`
+other_command_not_permitted : IsPermitted 3 (Run (120 ∷ []) []) (record { edge = 3; console = false; command = 121 ∷ []; observed = None }) → ⊥
+other_command_not_permitted h = let same : 121 ≡ 120 = same_byte 121 120 h.2 in omega (arith, same)
 
 entry_names_its_paths : paths_of (reply.Entry (record { command = []; basis = 0; paths = (97 ∷ []) ∷ [] })) ≡ (97 ∷ []) ∷ []
 entry_names_its_paths = refl

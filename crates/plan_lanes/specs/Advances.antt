@@ -1,5 +1,5 @@
 -- What an advance does.
-use Rattle.std.specs.Prelude.{◌≡◌, true, Option, Some, None, IfSome, is_some, length}
+use Rattle.std.specs.Prelude.{◌≡◌, true, Option, Some, None, length}
 use Rattle.plan_machine.specs.declared.event.Event.{Event}
 use Rattle.plan_machine.specs.declared.event.Mark.{Mark}
 use Rattle.plan_machine.specs.Edges.{edge_of}
@@ -9,13 +9,13 @@ use Rattle.plan_machine.specs.Picking.{IsEnabled}
 use Rattle.plan_image.specs.declared.image.Parts.{Parts}
 use Rattle.plan_machine.specs.Requests.{Asks, AsksNothing, asked_at}
 use Rattle.plan_machine.specs.State.{has_ended}
-use Rattle.plan_status.specs.Consoles.{is_console}
 use Rattle.plan_lanes.specs.declared.batch.OwnedRequest.{OwnedRequest}
 use Rattle.plan_lanes.specs.declared.board.Advance.{Advance}
 use Rattle.plan_lanes.specs.declared.board.Advance.TheVariants.{Moved, Job, Wait, Ended}
 use Rattle.plan_lanes.specs.Boards.{Applies}
 use Rattle.plan_lanes.specs.Progress.{Progress, run_state_of}
-use Rattle.plan_lanes.specs.Questions.{is_run, shown}
+use Rattle.plan_lanes.specs.Permits.{Permits}
+use Rattle.plan_lanes.specs.Questions.{shown}
 
 -- one start, skip, stop or step was applied and journaled
 pub record Goes (old new : Progress) (event : Event) : Type 0 where
@@ -23,17 +23,16 @@ pub record Goes (old new : Progress) (event : Event) : Type 0 where
   pub mark : Mark
   pub applies : Applies old new event mark
 
--- The effect of one advance. `Moved`: an event that doesn't ask. `Job`: an event that asks exactly this question. There
--- is a permit only if the question is a Run, and the permit says whether the edge is a console edge. `Wait`: nothing,
--- since no start, skip, stop or step is enabled, and an edge awaits a reply. `Ended`: nothing, since the run has ended.
+-- The effect of one advance. `Moved`: an event that doesn't ask. `Job`: an event that asks exactly this question, with
+-- the permit for its command if it is a Run. `Wait`: nothing, since no start, skip, stop or step is enabled, and an edge
+-- awaits a reply. `Ended`: nothing, since the run has ended.
 abbrev pub Advances : Progress → Progress → Advance → Type 0
 Advances old new Moved = (event : Event) × Goes old new event × AsksNothing old.opened.parts (run_state_of old) event
 Advances old new (Job e question permit) =
     (event : Event) × Goes old new event × (edge_of event ≡ e)
     × (asked_at new.opened.parts new.state e ≡ Some (shown question.request))
     × (question.number ≡ length old.journal)
-    × (is_some permit ≡ is_run (shown question.request))
-    × IfSome permit (λ x. x.console ≡ is_console old.opened.parts e)
+    × Permits old.opened.parts e (shown question.request) permit
 Advances old new Wait = (new ≡ old) × ((event : Event) → is_own event ≡ true → IsEnabled old.opened.parts (run_state_of old) event → ⊥) × Awaits old.state
 Advances old new Ended = (new ≡ old) × (has_ended old.state ≡ true)
 

@@ -13,7 +13,7 @@ use Rattle.plan_lanes.specs.Boards.{Applies, IsOpen}
 use Rattle.plan_lanes.specs.Journals.{Rule}
 use Rattle.plan_lanes.specs.Proceeds.{AnswersRow, CanOnlyWait, asking}
 use Rattle.plan_lanes.specs.Progress.{Progress}
-use Rattle.plan_lanes.specs.Questions.{is_run, shown}
+use Rattle.plan_lanes.specs.Questions.{is_run}
 use Rattle.plan_lanes.specs.LocalRuns.{AppliesAll, GoesOn}
 use Rattle.plan_lanes.specs.StampRows.{Stamps}
 
@@ -70,9 +70,9 @@ pub record Gathers (old new : Progress) (before after : List Held) (others : Lis
 abbrev pub Takes : Progress → Progress → List Held → List Held → BatchEnd → Type 0
 Takes old new before after Full = Gathers old new before after []
 Takes old new before after AskFirst = Gathers old new before after []
-Takes old new before after (Run e question permit) =
-    Gathers old new before after (e ∷ []) × IsOpen new e question.number (shown question.request)
-    × (is_run (shown question.request) ≡ true) × (permit.console ≡ is_console new.opened.parts e)
+Takes old new before after (Run order) =
+    Gathers old new before after (order.edge ∷ []) × IsOpen new order.edge order.number order.request
+    × (is_run order.request ≡ true) × (order.console ≡ is_console new.opened.parts order.edge)
 Takes old new before after Wait = Gathers old new before after [] × CanOnlyWait new
 Takes old new before after Ended = Gathers old new before after [] × (has_ended new.state ≡ true)
 Takes old new before after NoMemory = GoesOn old new

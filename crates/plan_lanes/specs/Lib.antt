@@ -6,6 +6,8 @@ pub mod StampRows
 pub mod Progress
 pub mod ObservableMarks
 pub mod Boards
+pub mod Observations
+pub mod Permits
 pub mod Advances
 pub mod Reports
 pub mod Faults
@@ -14,4 +16,3 @@ pub mod LocalRuns
 pub mod Proceeds
 pub mod Batches
 pub mod Running
-pub mod Observations

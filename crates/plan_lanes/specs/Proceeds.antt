@@ -1,6 +1,5 @@
 -- The effect of the calls of a board that only lanes use: like an advance and an answer, but over several events.
-use Rattle.std.specs.Prelude.{◌≡◌, ◌+◌, ◌⊎◌, ℕ, Bool, true, false, List, [], ◌∷◌, ◌++◌, Option, Some, IfSome, is_some, length, slice_get, take}
-use Rattle.plan_image.specs.declared.image.Parts.{Parts}
+use Rattle.std.specs.Prelude.{◌≡◌, ◌+◌, ◌⊎◌, ℕ, Bool, true, false, List, [], ◌∷◌, ◌++◌, Some, length, slice_get, take}
 use Rattle.plan_verify.specs.Turn.{Local, Request}
 use Rattle.plan_machine.specs.declared.event.Event.{Event}
 use Rattle.plan_machine.specs.declared.event.Event.TheVariants.{Reply as Hear}
@@ -12,13 +11,12 @@ use Rattle.plan_machine.specs.declared.run.local_runs.LocalRun.{LocalRun}
 use Rattle.plan_machine.specs.NeverStuck.{Awaits, is_own}
 use Rattle.plan_machine.specs.Picking.{IsEnabled}
 use Rattle.plan_machine.specs.State.{Active, has_ended}
-use Rattle.plan_status.specs.Consoles.{is_console}
 use Rattle.plan_lanes.specs.declared.board.Advance.{Advance}
 use Rattle.plan_lanes.specs.declared.board.Advance.TheVariants.{Moved, Job, Wait, Ended}
-use Rattle.plan_lanes.specs.declared.board.Permit.{Permit}
 use Rattle.plan_lanes.specs.Boards.{Applies, IsOpen}
 use Rattle.plan_lanes.specs.Progress.{Progress, run_state_of}
-use Rattle.plan_lanes.specs.Questions.{is_run, shown}
+use Rattle.plan_lanes.specs.Permits.{Permits}
+use Rattle.plan_lanes.specs.Questions.{shown}
 use Rattle.plan_lanes.specs.LocalRuns.{AppliesAll, Follows, SweepsRow}
 
 -- the edges that asked, according to these marks
@@ -47,10 +45,6 @@ pub record AsksLast (old new : Progress) (e number : ℕ) (q : Request) : Type 0
   pub alone : asking told ≡ e ∷ []
   pub question : IsOpen new e number q
   pub last : number + 1 ≡ length new.journal
-
--- there is a permit only if the question is a Run, and the permit says whether the edge is a console edge
-abbrev pub Permits : Parts → ℕ → Request → Option Permit → Type 0
-Permits p e q permit = (is_some permit ≡ is_run q) × IfSome permit (λ x. x.console ≡ is_console p e)
 
 -- no start, skip, stop or step is enabled, and an edge awaits a reply
 abbrev pub CanOnlyWait : Progress → Type 0

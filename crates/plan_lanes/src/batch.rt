@@ -7,7 +7,7 @@ ghost use Rattle.plan_lanes.specs.Proceeds.{Proceeds};
 ghost use Rattle.plan_lanes.specs.Questions.{shown, is_run};
 ghost use Rattle.plan_lanes.specs.LocalRuns.{GoesOn};
 
-use crate::board::Advance;
+use crate::board::{Advance, KeepOrder};
 use crate::shared_run::{RunBrand, SharedRun, Stopped};
 use crate::stamp_row::{StampRow, row_len};
 use crate::world::World;
@@ -50,9 +50,7 @@ fn reply_of<W: World>(world: &W, question: &Question) -> Option<Reply>
         OwnedRequest::Sweep(paths, place) => world.stat(number, paths.path(*place)),
         OwnedRequest::Recall(output) => world.recall(number, output.as_slice()),
         OwnedRequest::Deps(path) => world.read_depfile(number, path.as_slice()),
-        OwnedRequest::Keep(output, command, basis, paths) => {
-            world.keep(number, output.as_slice(), command.as_slice(), *basis, paths)
-        }
+        OwnedRequest::Keep(order) => world.keep(number, order),
         OwnedRequest::Run(..) => return None,
     };
     reply.ok()
@@ -357,9 +355,8 @@ pub enum OwnedRequest {
     Run(Items<u8>, RowList<u8>),
     /// Asks for the depfile at this path.
     Deps(Items<u8>),
-    /// Asks to keep an entry for an output: its command, its basis (the greatest stamp that the edge read), and its
-    /// dependencies.
-    Keep(Items<u8>, Items<u8>, u64, PathList),
+    /// Asks to keep the entry of this order.
+    Keep(KeepOrder),
 }
 
 /// A question: the request of an edge, and the position in the journal, from 0, of the event that asked.
@@ -370,7 +367,7 @@ pub struct Question {
 }
 
 /// Returns a copy of the bytes.
-fn bytes_of(alloc: Global, bytes: &[u8]) -> Result<Items<u8>, AllocError>
+pub(crate) fn bytes_of(alloc: Global, bytes: &[u8]) -> Result<Items<u8>, AllocError>
     ensures { IfOk result (λ items. items ≡ bytes.now) }
 {
     Ok(Items::new(Vec::from_slice(alloc, bytes)?))
@@ -381,7 +378,7 @@ fn bytes_of(alloc: Global, bytes: &[u8]) -> Result<Items<u8>, AllocError>
 const PATH_ROOM: usize = 96;
 
 /// Returns a copy of a path in these bytes, which are replaced.
-fn path_in(bytes: Vec<u8>, path: &[u8]) -> Result<Items<u8>, AllocError>
+pub(crate) fn path_in(bytes: Vec<u8>, path: &[u8]) -> Result<Items<u8>, AllocError>
     ensures { IfOk result (λ items. items ≡ path.now) }
 {
     let mut bytes = bytes;
@@ -394,7 +391,7 @@ fn path_in(bytes: Vec<u8>, path: &[u8]) -> Result<Items<u8>, AllocError>
 }
 
 /// Returns the paths of the files that an edge makes.
-fn paths_of(alloc: Global, outputs: &Outputs<'_>) -> Result<RowList<u8>, AllocError>
+pub(crate) fn paths_of(alloc: Global, outputs: &Outputs<'_>) -> Result<RowList<u8>, AllocError>
     ensures { IfOk result (λ rows. rows ≡ outputs.now) }
 {
     let mut rows = RowList::new(alloc);
@@ -437,13 +434,6 @@ fn are_paths(one: &PathList, other: &PathList) -> bool
 }
 
 impl OwnedRequest {
-    /// Returns a copy of a request, with texts of its own.
-    pub(crate) fn of(alloc: Global, request: &Request<'_>) -> Result<OwnedRequest, AllocError>
-        ensures { IfOk result (λ asked. shown asked ≡ request_shown request.now) }
-    {
-        OwnedRequest::with_room(alloc, Vec::new(alloc), request)
-    }
-
     /// Returns the bytes of its path, if it only has a path, and otherwise none.
     pub(crate) fn into_room(self, alloc: Global) -> Vec<u8> {
         match self {
@@ -451,31 +441,6 @@ impl OwnedRequest {
                 path.into_vec()
             }
             _ => Vec::new(alloc),
-        }
-    }
-
-    /// Returns a copy of a request, with texts of its own. If it only has a path, its copy is in `room`.
-    pub(crate) fn with_room(
-        alloc: Global,
-        room: Vec<u8>,
-        request: &Request<'_>,
-    ) -> Result<OwnedRequest, AllocError>
-        ensures { IfOk result (λ asked. shown asked ≡ request_shown request.now) }
-    {
-        match request {
-            Request::Stat(path) => Ok(OwnedRequest::Stat(path_in(room, path)?)),
-            Request::Recall(output) => Ok(OwnedRequest::Recall(path_in(room, output)?)),
-            Request::Run(command, outputs) => Ok(OwnedRequest::Run(
-                bytes_of(alloc, command)?,
-                paths_of(alloc, outputs)?,
-            )),
-            Request::Deps(path) => Ok(OwnedRequest::Deps(path_in(room, path)?)),
-            Request::Keep(output, command, basis, paths) => Ok(OwnedRequest::Keep(
-                bytes_of(alloc, output)?,
-                bytes_of(alloc, command)?,
-                *basis,
-                paths.copy()?,
-            )),
         }
     }
 
@@ -492,11 +457,11 @@ impl OwnedRequest {
                 command.as_slice() == *other && are_outputs(paths, outputs)
             }
             (OwnedRequest::Deps(path), Request::Deps(other)) => path.as_slice() == *other,
-            (OwnedRequest::Keep(output, command, basis, paths), Request::Keep(o, c, b, p)) => {
-                output.as_slice() == *o
-                    && command.as_slice() == *c
-                    && *basis == *b
-                    && are_paths(paths, p)
+            (OwnedRequest::Keep(order), Request::Keep(output, command, basis, paths)) => {
+                order.output() == *output
+                    && order.command() == *command
+                    && order.basis() == *basis
+                    && are_paths(order.paths(), paths)
             }
             _ => false,
         }

@@ -7,60 +7,70 @@ ghost use Rattle.plan_machine.specs.Depfile.{depfile};
 ghost use Rattle.plan_machine.specs.Edges.{edge_of};
 ghost use Rattle.plan_machine.specs.NeverStuck.{CanGo, is_own};
 ghost use Rattle.plan_machine.specs.Picking.{IsEnabled};
-ghost use Rattle.plan_machine.specs.Requests.{Asks};
+ghost use Rattle.plan_machine.specs.Requests.{Asks, shown as request_shown};
 ghost use Rattle.plan_machine.specs.Step.{NotEnabled, step};
 ghost use Rattle.plan_machine.specs.State.{has_ended};
 ghost use Rattle.plan_machine.specs.Total.{total_of};
 ghost use Rattle.plan_machine.specs.Wanted.{any_outside};
-ghost use Rattle.plan_status.specs.Consoles.{is_console};
 ghost use Rattle.plan_lanes.specs.Advances.{Advances, WouldAsk};
 ghost use Rattle.plan_lanes.specs.Boards.{Applies, IsFresh, IsOpen, MayJournal};
 ghost use Rattle.plan_lanes.specs.Journals.{IsLastOf};
 ghost use Rattle.plan_lanes.specs.Observations.{Observes, observed_if};
+ghost use Rattle.plan_lanes.specs.Permits.{AreParts, permit_of};
 ghost use Rattle.plan_lanes.specs.Proceeds.{Proceeds};
 ghost use Rattle.plan_lanes.specs.Progress.{Opened, opened_with, run_state_of};
-ghost use Rattle.plan_lanes.specs.Questions.{is_run, shown};
+ghost use Rattle.plan_lanes.specs.Questions.{shown};
 ghost use Rattle.plan_lanes.specs.Reports.{IsKeptBy, IsRunOf, IsTotalOf};
 ghost use Rattle.plan_lanes.specs.LocalRuns.{GoesOn};
 
 pub(crate) mod local_runs;
 
-use crate::batch::{OwnedRequest, Question};
+use crate::batch::{OwnedRequest, Question, bytes_of, path_in, paths_of};
 use crate::keeping_of::KeepingOf;
 use crate::observed::Observed;
 use crate::printed_run::keep;
 use crate::world::World;
 use plan_journal::{Journal, JournalBuilder, KeptJournal};
 use plan_machine::{
-    Event, Mark, Options, Refused, Reply, State, depfiles_are_frugal, marks_are_orderly,
+    Event, Mark, Options, Refused, Reply, Request, State, depfiles_are_frugal, marks_are_orderly,
     never_wrong, stays_in_budget,
 };
 use plan_status::is_console;
 use plan_text::Items;
-use plan_verify::Verified;
+use plan_verify::{PathList, Verified};
 use std::alloc::{AllocError, Global};
 use std::marker::{Model, PhantomData};
 
-/// The permit to run one command. Only a board creates one, together with the question to run the command. Nothing
-/// copies or drops a permit: the call that runs the command spends it.
+/// The permit to run one command, which it has. Only a board creates one, together with the question to run this
+/// command. Nothing copies or drops a permit: the call that runs the command spends it.
 pub struct Permit {
     edge: u32,
     console: bool,
+    command: Items<u8>,
+    observed: Option<Observed>,
+}
+
+/// The parts of a permit that take memory. A board has them before it applies the event that asks, and creates the
+/// permit after that.
+#[derive(Drop)]
+struct PermitParts {
+    command: Items<u8>,
     observed: Option<Observed>,
 }
 
 impl Permit {
     ghost use Rattle.std.specs.Prelude.{◌≡◌, option_map};
+    ghost use Rattle.plan_lanes.specs.Permits.{permit_with};
 
     /// Creates the permit for the command of an edge. `console` says whether it is a console edge.
-    fn new(edge: u32, console: bool, observed: Option<Observed>) -> Permit
-        ensures edge { result.edge ≡ edge }
-        ensures console { result.console ≡ console }
-        ensures observed { result.observed ≡ observed }
+    fn new(edge: u32, console: bool, parts: PermitParts) -> Permit
+        ensures { result ≡ permit_with edge console parts }
     {
+        let PermitParts { command, observed } = parts;
         Permit {
             edge,
             console,
+            command,
             observed,
         }
     }
@@ -80,6 +90,13 @@ impl Permit {
         self.console
     }
 
+    /// Returns the command that it permits.
+    pub fn command(&self) -> &[u8]
+        ensures { result.now ≡ self.now.command }
+    {
+        self.command.as_slice()
+    }
+
     /// Returns what the edge has observed up to here. Returns None if the world doesn't observe edges.
     pub fn observed(&self) -> Option<&Observed>
         ensures { option_map (λ o. o.now) result ≡ self.now.observed }
@@ -90,15 +107,91 @@ impl Permit {
         }
     }
 
-    /// Spends the permit.
-    pub fn spend(self) {
+    /// Spends the permit, and returns its command.
+    pub fn into_command(self) -> Items<u8>
+        ensures { result ≡ self.command }
+    {
         let Permit {
             edge,
             console,
+            command,
             observed,
         } = self;
         let _ = (edge, console);
         drop(observed);
+        command
+    }
+
+    /// Spends the permit.
+    pub fn spend(self) {
+        drop(self.into_command());
+    }
+}
+
+/// The order to keep one entry in the record. Only a board creates one, from the request of an edge that asks for
+/// exactly this entry. Nothing copies it, and nothing changes it.
+#[derive(Drop)]
+pub struct KeepOrder {
+    output: Items<u8>,
+    command: Items<u8>,
+    basis: u64,
+    paths: PathList,
+}
+
+impl KeepOrder {
+    ghost use Rattle.std.specs.Prelude.{◌≡◌};
+
+    /// Returns the output whose entry it is.
+    pub fn output(&self) -> &[u8]
+        ensures { result.now ≡ self.now.output }
+    {
+        self.output.as_slice()
+    }
+
+    /// Returns the command of the entry.
+    pub fn command(&self) -> &[u8]
+        ensures { result.now ≡ self.now.command }
+    {
+        self.command.as_slice()
+    }
+
+    /// Returns the basis of the entry: the greatest stamp that the edge read.
+    pub fn basis(&self) -> u64
+        ensures { result ≡ self.now.basis }
+    {
+        self.basis
+    }
+
+    /// Returns the dependencies of the entry.
+    pub fn paths(&self) -> &PathList
+        ensures { result.now ≡ self.now.paths }
+    {
+        &self.paths
+    }
+}
+
+/// Returns a copy of a request, with texts of its own. If it only has a path, its copy is in `room`.
+fn owned_request(
+    alloc: Global,
+    room: Vec<u8>,
+    request: &Request<'_>,
+) -> Result<OwnedRequest, AllocError>
+    ensures { IfOk result (λ asked. shown asked ≡ request_shown request.now) }
+{
+    match request {
+        Request::Stat(path) => Ok(OwnedRequest::Stat(path_in(room, path)?)),
+        Request::Recall(output) => Ok(OwnedRequest::Recall(path_in(room, output)?)),
+        Request::Run(command, outputs) => Ok(OwnedRequest::Run(
+            bytes_of(alloc, command)?,
+            paths_of(alloc, outputs)?,
+        )),
+        Request::Deps(path) => Ok(OwnedRequest::Deps(path_in(room, path)?)),
+        Request::Keep(output, command, basis, paths) => Ok(OwnedRequest::Keep(KeepOrder {
+            output: bytes_of(alloc, output)?,
+            command: bytes_of(alloc, command)?,
+            basis: *basis,
+            paths: paths.copy()?,
+        })),
     }
 }
 
@@ -172,21 +265,13 @@ fn put(numbers: &mut Vec<u64>, at: usize, number: u64)
     }
 }
 
-/// Returns the permit for an edge's command if that is what the edge asks for.
-fn permit_for(
-    image: &Verified,
-    edge: u32,
-    request: &OwnedRequest,
-    observed: Option<Observed>,
-) -> Option<Permit>
-    ensures run { is_some result ≡ is_run (shown request.now) }
-    ensures console { IfSome result (λ p. p.console ≡ is_console image.now edge) }
-    ensures edge { IfSome result (λ p. p.edge ≡ edge) }
-    ensures observed { IfSome result (λ p. p.observed ≡ observed) }
+/// Returns the permit of these parts for an edge's command, if there are parts.
+fn permit_for(image: &Verified, edge: u32, parts: Option<PermitParts>) -> Option<Permit>
+    ensures { result ≡ permit_of image.now edge parts }
 {
-    match request {
-        OwnedRequest::Run(..) => Some(Permit::new(edge, is_console(image, edge), observed)),
-        _ => None,
+    match parts {
+        Some(parts) => Some(Permit::new(edge, is_console(image, edge), parts)),
+        None => None,
     }
 }
 
@@ -274,7 +359,7 @@ impl<'v, W: World> Board<'v, W> {
         ensures { IfOk result (λ asked. WouldAsk self.now.opened.parts (run_state_of self.now) event.now asked) }
     {
         match self.state.asks(self.image, event) {
-            Some(request) => Ok(Some(OwnedRequest::of(self.alloc, &request)?)),
+            Some(request) => Ok(Some(owned_request(self.alloc, Vec::new(self.alloc), &request)?)),
             None => Ok(None),
         }
     }
@@ -293,30 +378,33 @@ impl<'v, W: World> Board<'v, W> {
         }))
     }
 
-    /// Returns what an edge has observed if it asks to run its command and the world observes edges.
-    fn observed_for(
+    /// Returns the parts of a permit for an edge if it asks to run its command.
+    fn parts_for(
         &self,
         edge: u32,
         request: &OwnedRequest,
-    ) -> Result<Option<Observed>, AllocError>
-        ensures { IfOk result (λ o. is_run (shown request.now) ≡ true → o ≡ observed_if W.observes self.now edge) }
+    ) -> Result<Option<PermitParts>, AllocError>
+        ensures { IfOk result (λ o. AreParts W.observes self.now edge (shown request.now) o) }
     {
         match request {
-            OwnedRequest::Run(..) => self.observed(edge),
+            OwnedRequest::Run(command, _outputs) => Ok(Some(PermitParts {
+                command: bytes_of(self.alloc, command.as_slice())?,
+                observed: self.observed(edge)?,
+            })),
             _ => Ok(None),
         }
     }
 
-    /// Returns what an edge has observed if it is about to ask to run its command and the world observes edges.
-    fn observed_before(
+    /// Returns the parts of a permit for an edge if it is about to ask to run its command.
+    fn parts_before(
         &self,
         edge: u32,
         asked: &Option<OwnedRequest>,
-    ) -> Result<Option<Observed>, AllocError>
-        ensures { IfOk result (λ o. IfSome asked.now (λ a. is_run (shown a) ≡ true → o ≡ observed_if W.observes self.now edge)) }
+    ) -> Result<Option<PermitParts>, AllocError>
+        ensures { IfOk result (λ o. IfSome asked.now (λ a. AreParts W.observes self.now edge (shown a) o)) }
     {
         match asked {
-            Some(request) => self.observed_for(edge, request),
+            Some(request) => self.parts_for(edge, request),
             None => Ok(None),
         }
     }
@@ -335,13 +423,13 @@ impl<'v, W: World> Board<'v, W> {
         let asked = self.question(&event)?;
         let image = self.image;
         let edge = edge_of(&event);
-        let observed = self.observed_before(edge, &asked)?;
+        let parts = self.parts_before(edge, &asked)?;
         let number = self.journal_builder.len() as u64;
         self.record(event)?;
         match asked {
             None => Ok(Advance::Moved),
             Some(request) => {
-                let permit = permit_for(image, edge, &request, observed);
+                let permit = permit_for(image, edge, parts);
                 Ok(Advance::Job(edge, Question { number, request }, permit))
             }
         }

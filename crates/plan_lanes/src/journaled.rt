@@ -2,11 +2,10 @@
 
 ghost use Rattle.std.specs.Prelude.{◌≡◌};
 
-use crate::board::Permit;
+use crate::board::{KeepOrder, Permit};
 use crate::world::World;
 use plan_machine::Reply;
 use plan_text::{PathFilter, RowList};
-use plan_verify::PathList;
 use std::alloc::{AllocError, Global};
 
 /// Another world, whose runs keep their journals. It passes all questions on.
@@ -111,28 +110,15 @@ impl<W: World> World for Journaled<'_, W> {
         self.world.explain(edge, reason);
     }
 
-    fn run(
-        &self,
-        number: u64,
-        command: &[u8],
-        outputs: &RowList<u8>,
-        permit: Permit,
-    ) -> Result<Reply, AllocError> {
-        self.world.run(number, command, outputs, permit)
+    fn run(&self, number: u64, outputs: &RowList<u8>, permit: Permit) -> Result<Reply, AllocError> {
+        self.world.run(number, outputs, permit)
     }
 
     fn read_depfile(&self, number: u64, path: &[u8]) -> Result<Reply, AllocError> {
         self.world.read_depfile(number, path)
     }
 
-    fn keep(
-        &self,
-        number: u64,
-        output: &[u8],
-        command: &[u8],
-        basis: u64,
-        paths: &PathList,
-    ) -> Result<Reply, AllocError> {
-        self.world.keep(number, output, command, basis, paths)
+    fn keep(&self, number: u64, order: &KeepOrder) -> Result<Reply, AllocError> {
+        self.world.keep(number, order)
     }
 }

@@ -10,9 +10,10 @@ ghost use Rattle.plan_lanes.specs.Batches.{Takes};
 ghost use Rattle.plan_lanes.specs.Progress.{Opened, opened_with};
 ghost use Rattle.plan_lanes.specs.Reports.{IsKeptBy, IsRunOf};
 
-use crate::batch::{Batch, BatchItem, OwnedRequest, Question};
-use crate::board::{Advance, Board, Permit, Report};
+use crate::batch::{Batch, BatchItem};
+use crate::board::{Advance, Board, Report};
 use crate::fault::LaneFault;
+use crate::run_order::RunOrder;
 use crate::shared_run::{RunBrand, SharedRun, Stopped};
 use crate::world::World;
 use plan_machine::{Options, Refused};
@@ -29,7 +30,7 @@ enum NextTask {
     /// Ask the questions in the batch.
     Asks,
     /// Ask the questions in the batch, and then run a command.
-    Runs(u32, Question, Permit),
+    Runs(RunOrder),
     /// Return: the run has ended, or lanes stop.
     Nothing,
 }
@@ -41,7 +42,7 @@ enum BatchEnd {
     /// An edge would take a job token, but the batch has questions.
     AskFirst,
     /// An edge asks to run its command.
-    Run(u32, Question, Permit),
+    Run(RunOrder),
     /// Nothing can be done before a reply comes.
     Wait,
     /// The run has ended.
@@ -227,12 +228,12 @@ fn lane<J: RunBrand, W: World, R: Wait>(
         match visit(rt, shared, signals, &mut batch, world) {
             NextTask::Nothing => return,
             NextTask::Asks => {}
-            NextTask::Runs(edge, question, permit) => {
+            NextTask::Runs(order) => {
                 if !ask_out(rt, shared, signals, &mut batch, world) {
-                    permit.spend();
+                    order.give_up();
                     return;
                 }
-                let pending = run(world, edge, question, permit);
+                let pending = order.run(world);
                 if !batch.push(pending) {
                     stop(rt, shared, signals);
                     return;
@@ -326,7 +327,7 @@ fn visit<J: RunBrand, W: World, R: Wait>(
         guard.show();
         let left = match taken {
             BatchEnd::Full | BatchEnd::AskFirst => NextTask::Asks,
-            BatchEnd::Run(edge, question, permit) => NextTask::Runs(edge, question, permit),
+            BatchEnd::Run(order) => NextTask::Runs(order),
             BatchEnd::Wait if batch.is_empty() => {
                 guard.add_sleeper();
                 guard = signals.moved.wait(rt, guard);
@@ -411,7 +412,7 @@ fn take<J: RunBrand, W: World, R: Wait>(
         match batch.advance(shared) {
             Ok(Advance::Moved) => {}
             Ok(Advance::Job(edge, question, permit)) => match permit {
-                Some(permit) => return BatchEnd::Run(edge, question, permit),
+                Some(permit) => return BatchEnd::Run(RunOrder::new(edge, question, permit)),
                 None => {
                     if !batch.push(BatchItem::open(edge, question)) {
                         return BatchEnd::NoMemory;
@@ -425,22 +426,6 @@ fn take<J: RunBrand, W: World, R: Wait>(
         }
     }
     BatchEnd::NoMemory
-}
-
-/// Runs a command. Returns its question with the reply, or without a reply if memory ran out.
-fn run<W: World>(world: &W, edge: u32, question: Question, permit: Permit) -> BatchItem<W> {
-    let reply = match &question.request {
-        OwnedRequest::Run(command, outputs) => {
-            world
-                .run(question.number, command.as_slice(), outputs, permit)
-                .ok()
-        }
-        _ => {
-            permit.spend();
-            None
-        }
-    };
-    BatchItem::with_reply(edge, question, reply)
 }
 
 /// Stops all lanes, because memory ran out.

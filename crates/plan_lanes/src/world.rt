@@ -6,11 +6,10 @@ ghost use Rattle.plan_machine.specs.declared.event.reply.Reply.TheVariants.{Stam
 ghost use Rattle.plan_verify.specs.Turn.{Deps, Keep, Recall, Request, Run, Stat};
 ghost use Rattle.plan_lanes.specs.Recalled.{RecallsAmong};
 
-use crate::board::Permit;
+use crate::board::{KeepOrder, Permit};
 use crate::recalling::replied_among;
 use plan_machine::Reply;
 use plan_text::{PathFilter, RowList};
-use plan_verify::PathList;
 use std::alloc::{AllocError, Global};
 
 /// The world outside a run. Each call returns the reply to a request of an edge. The number of the question is the
@@ -151,29 +150,15 @@ pub trait World {
     /// the edge. A world that shows no reasons does nothing.
     fn explain(&self, _edge: &[u8], _reason: &[u8]) {}
 
-    /// Runs a command that makes these files. May wait until the command ends.
-    fn run(
-        &self,
-        number: u64,
-        command: &[u8],
-        outputs: &RowList<u8>,
-        permit: Permit,
-    ) -> Result<Reply, AllocError>
-        ensures { IfOk result (λ r. Self.allows number (Run command.now outputs.now) r) };
+    /// Runs the command of a permit, which makes these files. May wait until the command ends.
+    fn run(&self, number: u64, outputs: &RowList<u8>, permit: Permit) -> Result<Reply, AllocError>
+        ensures { IfOk result (λ r. Self.allows number (Run permit.command outputs.now) r) };
 
     /// Returns the depfile at a path.
     fn read_depfile(&self, number: u64, path: &[u8]) -> Result<Reply, AllocError>
         ensures { IfOk result (λ r. Self.allows number (Deps path.now) r) };
 
-    /// Keeps an entry in the record for an output: its command, its basis (the greatest stamp that the edge read), and
-    /// its dependencies.
-    fn keep(
-        &self,
-        number: u64,
-        output: &[u8],
-        command: &[u8],
-        basis: u64,
-        paths: &PathList,
-    ) -> Result<Reply, AllocError>
-        ensures { IfOk result (λ r. Self.allows number (Keep output.now command.now basis paths.now) r) };
+    /// Keeps the entry of an order in the record.
+    fn keep(&self, number: u64, order: &KeepOrder) -> Result<Reply, AllocError>
+        ensures { IfOk result (λ r. Self.allows number (Keep order.now.output order.now.command order.now.basis order.now.paths) r) };
 }

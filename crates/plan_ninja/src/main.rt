@@ -14,7 +14,7 @@ use plan_printing::{
     TRACE_BYTES, ended, file_fault, lost_output, no_memory, open_streams,
 };
 use plan_text::{Counted, Sink};
-use plan_world::{OpenFault, RealWorld, SystemShells};
+use plan_world::{OpenFault, RealWorld, SystemDisk, SystemShells};
 use std::alloc::{AllocError, Global};
 use std::mem::forget;
 use std::process::ExitCode;
@@ -133,7 +133,7 @@ fn bytes_of(path: Option<&str>) -> Option<&[u8]> {
 }
 
 /// The world of real files and commands.
-type SystemWorld = RealWorld<HostRuntime, SystemShells<HostRuntime>>;
+type SystemWorld = RealWorld<HostRuntime, SystemShells<HostRuntime>, SystemDisk<HostRuntime>>;
 
 /// Returns the fault of a record that can't be used.
 fn record_fault(alloc: Global, record: &str, fault: OpenFault) -> PlanFault {
@@ -147,10 +147,16 @@ fn record_fault(alloc: Global, record: &str, fault: OpenFault) -> PlanFault {
 fn world_at(rt: &HostRuntime, record: &str) -> Result<SystemWorld, PlanFault> {
     let own: Result<HostRuntime, AllocError> = rt.clone();
     let other: Result<HostRuntime, AllocError> = rt.clone();
-    let (Ok(own), Ok(other)) = (own, other) else {
+    let third: Result<HostRuntime, AllocError> = rt.clone();
+    let (Ok(own), Ok(other), Ok(third)) = (own, other, third) else {
         return Err(no_memory(rt.alloc()));
     };
-    match RealWorld::open(own, SystemShells::new(other), record) {
+    match RealWorld::open(
+        own,
+        SystemShells::new(other),
+        SystemDisk::new(third),
+        record,
+    ) {
         Ok(world) => Ok(world),
         Err(fault) => Err(record_fault(rt.alloc(), record, fault)),
     }

@@ -11,6 +11,10 @@ use Rattle.plan_options.specs.declared.integer.Integer.TheVariants.{Negative, At
 use Rattle.plan_options.specs.Integers.{integer_in}
 use Rattle.plan_options.specs.Reading.{reading}
 use Rattle.plan_options.specs.Stops.{stop_of_load, stop_of_mode}
+use Rattle.plan_options.specs.declared.command.Build.TheVariants as build
+use Rattle.plan_options.specs.declared.command.Mode.TheVariants as mode
+use Rattle.plan_options.specs.declared.command.Reasons.TheVariants as reasons
+use Rattle.plan_options.specs.Commands.{Builds, Stops, UsesTool, asks_in}
 use Rattle.plan_options.specs.Saying.{exceeds_jobs, failures, first_stop, is_dry_run, jobs, targets, verbosity}
 use Rattle.plan_options.specs.ToolWords.{operands, option_letters}
 
@@ -143,3 +147,39 @@ letters_of_a_tool = refl
 
 operands_of_a_tool : operands (codes "-gr" ∷ codes "a" ∷ codes "-x" ∷ codes "--" ∷ codes "-g" ∷ []) ≡ codes "a" ∷ codes "-g" ∷ []
 operands_of_a_tool = refl
+
+-- `a -k 3`
+targets_are_built : asks_in (reading (codes "a" ∷ codes "-k" ∷ codes "3" ∷ [])) ≡ Builds (build.Targets mode.Real reasons.Hidden)
+targets_are_built = refl
+
+-- `-n a`
+dry_run_runs_no_command : asks_in (reading (codes "-n" ∷ codes "a" ∷ [])) ≡ Builds (build.Targets mode.Dry reasons.Hidden)
+dry_run_runs_no_command = refl
+
+-- `-d explain a -n`
+reasons_of_a_dry_run : asks_in (reading (codes "-d" ∷ codes "explain" ∷ codes "a" ∷ codes "-n" ∷ [])) ≡ Builds (build.Targets mode.Dry reasons.Shown)
+reasons_of_a_dry_run = refl
+
+-- `-d stats a`
+statistics_give_no_reasons : asks_in (reading (codes "-d" ∷ codes "stats" ∷ codes "a" ∷ [])) ≡ Builds (build.Targets mode.Real reasons.Hidden)
+statistics_give_no_reasons = refl
+
+-- `-t explain a`: It is a dry build, also without `-n`.
+tool_that_builds : asks_in (reading (codes "-t" ∷ codes "explain" ∷ codes "a" ∷ [])) ≡ Builds build.Explain
+tool_that_builds = refl
+
+-- `-n -t clean x`
+tool_of_a_dry_run : asks_in (reading (codes "-n" ∷ codes "-t" ∷ codes "clean" ∷ codes "x" ∷ [])) ≡ UsesTool (codes "clean")
+tool_of_a_dry_run = refl
+
+-- `--version -t clean`
+version_before_a_tool : asks_in (reading (codes "--version" ∷ codes "-t" ∷ codes "clean" ∷ [])) ≡ Stops (argument.Flag flag.Version)
+version_before_a_tool = refl
+
+-- `-t clean --version`: All words after a tool are the tool's.
+version_after_a_tool : asks_in (reading (codes "-t" ∷ codes "clean" ∷ codes "--version" ∷ [])) ≡ UsesTool (codes "clean")
+version_after_a_tool = refl
+
+-- `a -j x`
+fault_before_targets : asks_in (reading (codes "a" ∷ codes "-j" ∷ codes "x" ∷ [])) ≡ Stops (argument.Setting setting.Jobs (codes "x"))
+fault_before_targets = refl

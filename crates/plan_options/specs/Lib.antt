@@ -1,3 +1,4 @@
+pub mod Commands
 pub mod Integers
 pub mod Letters
 pub mod LongOptions

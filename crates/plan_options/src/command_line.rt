@@ -4,8 +4,10 @@ ghost use Rattle.std.specs.Prelude.{◌≡◌, ◌-◌, ◌^◌, IfOk, map, opti
 ghost use Rattle.plan_options.specs.Reading as reading;
 ghost use Rattle.plan_options.specs.Saying as defined;
 ghost use Rattle.plan_options.specs.Integers.{integer_in};
+ghost use Rattle.plan_options.specs.Commands as commands;
 
 use crate::argument::{Argument, Flag, Setting};
+use crate::command::{Build, Command, Mode, Reasons};
 use crate::integer::{Integer, integer_in};
 use crate::reader::arguments;
 use crate::stop::stop_of;
@@ -221,6 +223,16 @@ fn tool_words_in(alloc: Global, arguments: &[Argument]) -> Result<Vec<&[u8]>, Me
     Ok(words)
 }
 
+/// Returns the command of the last tool that a command line names.
+fn command_of_tool(name: &[u8]) -> Command<'_>
+    ensures { commands.asks_of result ≡ commands.of_tool name.now }
+{
+    if name == b"explain".as_slice() {
+        return Command::Build(Build::Explain);
+    }
+    Command::Tool(name)
+}
+
 impl CommandLine {
     /// Reads the words after a program's name.
     ///
@@ -281,6 +293,42 @@ impl CommandLine {
         ensures { result ≡ defined.is_dry_run self.now }
     {
         has_dry(self.arguments())
+    }
+
+    /// Returns the mode in which the targets are built.
+    fn mode(&self) -> Mode
+        ensures { result ≡ commands.mode_in self.now }
+    {
+        if self.is_dry_run() {
+            Mode::Dry
+        } else {
+            Mode::Real
+        }
+    }
+
+    /// Checks whether reasons are shown while the targets are built.
+    fn reasons(&self) -> Reasons
+        ensures { result ≡ commands.reasons_in self.now }
+    {
+        if self.is_explained() {
+            Reasons::Shown
+        } else {
+            Reasons::Hidden
+        }
+    }
+
+    /// Returns what the command line asks for. An argument at which ninja ends counts before all others, and a tool
+    /// before targets.
+    pub fn command(&self) -> Command<'_>
+        ensures { commands.asks_of result ≡ commands.asks_in self.now }
+    {
+        match self.stop() {
+            Some(argument) => Command::Stop(argument),
+            None => match self.value(Setting::Tool) {
+                Some(name) => command_of_tool(name),
+                None => Command::Build(Build::Targets(self.mode(), self.reasons())),
+            },
+        }
     }
 
     /// Returns the number of commands that may run at once, 1 to 1,024. Returns `None` if no `-j` gives it.

@@ -2,6 +2,8 @@
 //!
 //! - `CommandLine`: the options, the targets and the words of a tool in a command line, in their order, as ninja's
 //!   getopt_long reads them, and their meaning together.
+//! - `Command`: what a command line asks for: to end, to run a tool, or to build targets (`Build`, in a `Mode`, with or
+//!   without `Reasons`).
 //! - `Argument`: one of them. `Flag` and `Setting` are the options without and with a value, and `Misuse` is the reason
 //!   why a word isn't understood.
 //! - `Stop`: the reason why ninja ends at an argument before it does anything else.
@@ -12,6 +14,7 @@
 #![tactic(auto)]
 
 mod argument;
+mod command;
 mod command_line;
 mod expected;
 mod form;
@@ -23,6 +26,7 @@ mod stop;
 mod tool_words;
 
 pub use argument::{Argument, Flag, Misuse, Setting};
+pub use command::{Build, Command, Mode, Reasons};
 pub use command_line::CommandLine;
 pub use integer::{Integer, integer_in};
 pub use long_option::{flags_named, long_name_in, name_of};

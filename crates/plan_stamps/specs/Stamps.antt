@@ -8,6 +8,12 @@ use Rattle.plan_lanes.specs.Journals.{Rule}
 abbrev pub AllowsOnce : Rule → Request → Reply → Type 0
 AllowsOnce rule question reply = (n : ℕ) × rule n question reply
 
+-- a reply that was asked for in a moment: its path, and the number of commands that had begun by that moment
+pub record Asked : Type 0 where
+  pub path : List ℕ
+  pub reply : Reply
+  pub begun : ℕ
+
 -- a kept stamp: its path, the stamp, and the number of commands that had begun when it was asked for
 pub record Kept : Type 0 where
   pub path : List ℕ

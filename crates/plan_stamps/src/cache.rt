@@ -1,16 +1,15 @@
 //! A world that caches the stamps of another world.
 
-ghost use Rattle.std.specs.Prelude.{◌≡◌, IfOk, IfSome};
-ghost use Rattle.plan_machine.specs.declared.event.reply.Reply.TheVariants.{Stamp};
+ghost use Rattle.std.specs.Prelude.{◌≡◌, IfOk};
 ghost use Rattle.plan_stamps.specs.Stamps.{AllowsOnce};
 ghost use Rattle.plan_verify.specs.Turn.{Keep, Run, Stat};
 
+use crate::asked::{self, AskedReply, ask_in};
 use crate::commands::{Commands, Moment, Running};
 use crate::kept::{KeptStamp, StampTable};
-use plan_lanes::{Permit, World};
+use plan_lanes::{KeepOrder, Permit, World};
 use plan_machine::Reply;
 use plan_text::{PathFilter, RowList};
-use plan_verify::PathList;
 use std::alloc::{AllocError, Global};
 use std::sync::Wait;
 
@@ -26,13 +25,19 @@ impl<W: World> Inner<W> {
     fn stat(&self, number: Option<u64>, path: &[u8]) -> Result<Reply, AllocError>
         ensures { IfOk result (λ r. AllowsOnce W.allows (Stat path.now) r) }
     {
-        if let Some(number) = number {
-            return self.world.stat(number, path);
-        }
-        match self.world.stat_ahead(path) {
-            Some(stamp) => Ok(Reply::Stamp(stamp)),
-            None => Err(AllocError),
-        }
+        asked::stat(&self.world, number, path)
+    }
+
+    /// Asks for the stamp of a path in a moment, like `stat`.
+    fn stat_in<'a>(
+        &self,
+        number: Option<u64>,
+        path: &'a [u8],
+        moment: &Moment,
+    ) -> Result<AskedReply<'a, W>, AllocError>
+        ensures { IfOk result (λ a. (a.path ≡ path.now) × (a.begun ≡ moment.now.begun)) }
+    {
+        ask_in(&self.world, number, path, moment)
     }
 
     /// Runs a command that was counted.
@@ -40,30 +45,21 @@ impl<W: World> Inner<W> {
         &self,
         running: &Running,
         number: u64,
-        command: &[u8],
         outputs: &RowList<u8>,
         permit: Permit,
     ) -> Result<Reply, AllocError>
-        ensures { IfOk result (λ r. AllowsOnce W.allows (Run command.now outputs.now) r) }
+        ensures { IfOk result (λ r. AllowsOnce W.allows (Run permit.command outputs.now) r) }
     {
         let _ = running;
-        self.world.run(number, command, outputs, permit)
+        self.world.run(number, outputs, permit)
     }
 
-    /// Keeps the entry of an output in the record. The caller has counted this like a command.
-    fn keep(
-        &self,
-        running: &Running,
-        number: u64,
-        output: &[u8],
-        command: &[u8],
-        basis: u64,
-        paths: &PathList,
-    ) -> Result<Reply, AllocError>
-        ensures { IfOk result (λ r. AllowsOnce W.allows (Keep output.now command.now basis paths.now) r) }
+    /// Keeps the entry of an order in the record. The caller has counted this like a command.
+    fn keep(&self, running: &Running, number: u64, order: &KeepOrder) -> Result<Reply, AllocError>
+        ensures { IfOk result (λ r. AllowsOnce W.allows (Keep order.now.output order.now.command order.now.basis order.now.paths) r) }
     {
         let _ = running;
-        self.world.keep(number, output, command, basis, paths)
+        self.world.keep(number, order)
     }
 }
 
@@ -126,27 +122,24 @@ impl<'a, R, W: World> StampCache<'a, R, W> {
 }
 
 impl<R: Wait, W: World> StampCache<'_, R, W> {
-    /// Keeps a stamp for later questions in the same moment. If memory runs out, the stamp isn't kept.
-    fn keep_stamp(&self, path: &[u8], stamp: u64, moment: &Moment)
-        requires { AllowsOnce W.allows (Stat path.now) (Stamp stamp) }
-    {
-        if !self.table.is_wanted(moment) {
+    /// Keeps a stamp for later questions in the moment in which it was asked for. If memory runs out, the stamp isn't
+    /// kept. A fault isn't kept.
+    fn keep_stamp(&self, asked: &AskedReply<'_, W>) {
+        if asked.stamp().is_none() || !self.table.is_wanted(asked.begun_count()) {
             return;
         }
-        if let Ok(kept) = KeptStamp::new(self.alloc, path, stamp, moment) {
+        if let Ok(Some(kept)) = KeptStamp::of(self.alloc, asked) {
             self.table.add(self.rt, kept);
         }
     }
 
-    /// Asks the inner world, and keeps the stamp that it replies. A fault isn't kept.
+    /// Asks the inner world, and keeps the stamp that it replies.
     fn ask(&self, number: Option<u64>, path: &[u8], moment: &Moment) -> Result<Reply, AllocError>
         ensures { IfOk result (λ r. AllowsOnce W.allows (Stat path.now) r) }
     {
-        let reply = self.inner.stat(number, path)?;
-        if let Reply::Stamp(stamp) = &reply {
-            self.keep_stamp(path, *stamp, moment);
-        }
-        Ok(reply)
+        let asked = self.inner.stat_in(number, path, moment)?;
+        self.keep_stamp(&asked);
+        Ok(asked.into_reply())
     }
 
     /// Returns the reply for a path: the stamp that was kept, or what the inner world replies.
@@ -253,15 +246,9 @@ impl<R: Wait, W: World> World for StampCache<'_, R, W> {
         self.inner.world.explain(edge, reason);
     }
 
-    fn run(
-        &self,
-        number: u64,
-        command: &[u8],
-        outputs: &RowList<u8>,
-        permit: Permit,
-    ) -> Result<Reply, AllocError> {
+    fn run(&self, number: u64, outputs: &RowList<u8>, permit: Permit) -> Result<Reply, AllocError> {
         let running = self.commands.begin();
-        let reply = self.inner.run(&running, number, command, outputs, permit);
+        let reply = self.inner.run(&running, number, outputs, permit);
         self.commands.end(running);
         reply
     }
@@ -270,18 +257,9 @@ impl<R: Wait, W: World> World for StampCache<'_, R, W> {
         self.inner.world.read_depfile(number, path)
     }
 
-    fn keep(
-        &self,
-        number: u64,
-        output: &[u8],
-        command: &[u8],
-        basis: u64,
-        paths: &PathList,
-    ) -> Result<Reply, AllocError> {
+    fn keep(&self, number: u64, order: &KeepOrder) -> Result<Reply, AllocError> {
         let running = self.commands.begin();
-        let reply = self
-            .inner
-            .keep(&running, number, output, command, basis, paths);
+        let reply = self.inner.keep(&running, number, order);
         self.commands.end(running);
         reply
     }

@@ -5,6 +5,7 @@ ghost use Rattle.plan_machine.specs.declared.event.reply.Reply.TheVariants.{Stam
 ghost use Rattle.plan_stamps.specs.Stamps.{AllowsOnce};
 ghost use Rattle.plan_verify.specs.Turn.{Stat};
 
+use crate::asked::AskedReply;
 use crate::commands::Moment;
 use plan_lanes::World;
 use std::alloc::{AllocError, Global};
@@ -35,23 +36,21 @@ impl<W: World> Model for KeptStamp<W> {
 }
 
 impl<W: World> KeptStamp<W> {
-    /// Creates a copy of a path with its stamp, which was asked for in a moment without commands.
-    pub fn new(
-        alloc: Global,
-        path: &[u8],
-        stamp: u64,
-        moment: &Moment,
-    ) -> Result<KeptStamp<W>, AllocError>
-        requires { AllowsOnce W.allows (Stat path.now) (Stamp stamp) }
-        ensures { IfOk result (λ k. k ≡ record { path = path.now; stamp = stamp; begun = moment.now.begun }) }
+    /// Creates a copy of a path with the stamp that was asked for in a moment without commands. Returns None if the
+    /// reply was no stamp.
+    pub fn of(alloc: Global, asked: &AskedReply<'_, W>) -> Result<Option<KeptStamp<W>>, AllocError>
+        ensures { IfOk result (λ kept. IfSome kept (λ k. asked.now ≡ record { path = k.path; reply = Stamp k.stamp; begun = k.begun })) }
     {
-        let path = Vec::from_slice(alloc, path)?;
-        Ok(KeptStamp {
+        let Some(stamp) = asked.stamp() else {
+            return Ok(None);
+        };
+        let path = Vec::from_slice(alloc, asked.path())?;
+        Ok(Some(KeptStamp {
             path,
             stamp,
-            begun: moment.begun_count(),
+            begun: asked.begun_count(),
             world: PhantomData,
-        })
+        }))
     }
 
     /// Checks whether the stamp is of this path, and no command has begun between its question and a moment.
@@ -232,13 +231,13 @@ impl<W: World> StampTable<W> {
     }
 
     /// Counts a stamp that is offered, and checks whether to keep it: before the first command, or if many stamps were
-    /// offered in this moment.
-    pub fn is_wanted(&self, moment: &Moment) -> bool {
-        if moment.begun_count() == 0 {
+    /// offered in the moment in which this many commands had begun.
+    pub fn is_wanted(&self, begun_count: u64) -> bool {
+        if begun_count == 0 {
             return true;
         }
-        if self.begun.load(Ordering::SeqCst) != moment.begun_count() {
-            self.begun.store(moment.begun_count(), Ordering::SeqCst);
+        if self.begun.load(Ordering::SeqCst) != begun_count {
+            self.begun.store(begun_count, Ordering::SeqCst);
             self.offered.store(0, Ordering::SeqCst);
         }
         self.offered.fetch_add(1, Ordering::SeqCst) >= SHORT

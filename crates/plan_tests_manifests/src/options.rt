@@ -68,6 +68,47 @@ fn line_with_a_tool(rt: HostRuntime) -> Result<(), Fail> {
     Ok(())
 }
 
+/// Returns the build that words ask for, or `None` if they ask for something else or memory runs out.
+fn build_of(alloc: Global, words: &[&[u8]]) -> Option<Build> {
+    let line = CommandLine::read(alloc, words).ok()?;
+    match line.command() {
+        Command::Build(build) => Some(build),
+        _ => None,
+    }
+}
+
+#[test]
+fn builds_by_mode(rt: HostRuntime) {
+    let alloc = rt.alloc();
+    let real = Build::Targets(Mode::Real, Reasons::Hidden);
+    assert!(rt; build_of(alloc, &[b"a", b"-k3"]) == Some(real));
+    let dry = Build::Targets(Mode::Dry, Reasons::Hidden);
+    assert!(rt; build_of(alloc, &[b"a", b"-vn"]) == Some(dry));
+    let explained = Build::Targets(Mode::Real, Reasons::Shown);
+    assert!(rt; build_of(alloc, &[b"-dexplain", b"a"]) == Some(explained));
+    assert!(rt; build_of(alloc, &[b"-texplain", b"a"]) == Some(Build::Explain));
+    assert!(rt; build_of(alloc, &[b"-n", b"-tclean"]).is_none());
+    assert!(rt; build_of(alloc, &[b"a", b"--version"]).is_none());
+}
+
+/// Checks whether words ask for a tool.
+fn has_tool(alloc: Global, words: &[&[u8]], tool: &[u8]) -> bool {
+    match CommandLine::read(alloc, words) {
+        Ok(line) => match line.command() {
+            Command::Tool(name) => name == tool,
+            _ => false,
+        },
+        Err(_) => false,
+    }
+}
+
+#[test]
+fn tools_by_name(rt: HostRuntime) {
+    assert!(rt; has_tool(rt.alloc(), &[b"-n", b"-tclean", b"x"], b"clean"));
+    assert!(rt; has_tool(rt.alloc(), &[b"-tclean", b"--version"], b"clean"));
+    assert!(rt; !has_tool(rt.alloc(), &[b"--version", b"-tclean"], b"clean"));
+}
+
 #[test]
 fn lines_that_end(rt: HostRuntime) -> Result<(), Fail> {
     for (word, stop) in [

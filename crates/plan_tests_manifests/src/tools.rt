@@ -117,21 +117,18 @@ fn cleaned_are(alloc: Global, generators: bool, expected: &[&[u8]]) -> Option<bo
     let tree = tree_of(alloc)?;
     let manifest = manifest_of(alloc, &tree)?;
     let graph = graph_of(alloc, &manifest)?;
-    let edges = command_edges(alloc, &manifest, generators).ok()?;
-    let files = files_of_edges(alloc, &manifest, &graph, None, &edges).ok()?;
-    Some(are_rows(&files, expected))
+    let files = files_of_commands(alloc, &manifest, &graph, generators).ok()?;
+    Some(are_rows(files.paths(), expected))
 }
 
-/// Checks whether the files of a rule are these if the second path of the graph, `a.lst`, is left out.
+/// Checks whether the files of a rule are these.
 fn cleaned_of_rule_are(alloc: Global, rule: &[u8], expected: &[&[u8]]) -> Option<bool> {
     let tree = tree_of(alloc)?;
     let manifest = manifest_of(alloc, &tree)?;
     let graph = graph_of(alloc, &manifest)?;
     let rules = rules_of(alloc, &tree).ok()?;
-    let edges = edges_of_rules(alloc, &manifest, &rules, &[rule]).ok()?;
-    let counted = [true, false, true, true, true];
-    let files = files_of_edges(alloc, &manifest, &graph, Some(&counted), &edges).ok()?;
-    Some(are_rows(&files, expected))
+    let files = files_of_rules(alloc, &manifest, &graph, &rules, &[rule]).ok()?;
+    Some(are_rows(files.paths(), expected))
 }
 
 /// Checks that the files of a command are its outputs and its depfile, and that the files of generators are left out
@@ -147,7 +144,7 @@ fn cleaned_files(rt: HostRuntime) {
 /// Checks that the files of a rule are those of its commands, and that phony edges have none.
 #[test]
 fn cleaned_files_of_a_rule(rt: HostRuntime) {
-    let counted: [&[u8]; 4] = [b"a.o", b"a.o.d", b"app", b"app.d"];
-    assert!(rt; cleaned_of_rule_are(rt.alloc(), b"cc", &counted) == Some(true));
+    let all: [&[u8]; 5] = [b"a.o", b"a.lst", b"a.o.d", b"app", b"app.d"];
+    assert!(rt; cleaned_of_rule_are(rt.alloc(), b"cc", &all) == Some(true));
     assert!(rt; cleaned_of_rule_are(rt.alloc(), b"phony", &[]) == Some(true));
 }

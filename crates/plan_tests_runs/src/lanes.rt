@@ -1,6 +1,6 @@
 //! Runs of small images in worlds written for tests, and calls of the public functions.
 
-mod boards;
+pub(crate) mod boards;
 mod chain;
 mod recorded;
 mod sweeps;
@@ -10,7 +10,7 @@ use plan_lanes::*;
 use plan_machine::{Options, Outcome, Refused, Reply};
 use plan_status::{StatusLines, ends_stay, live};
 use plan_text::{Counted as Sinks, Items, RowList, Sink};
-use plan_verify::{PathList, Refusal, Verified, VerifyFault, verify, verify_by};
+use plan_verify::{Refusal, Verified, VerifyFault, verify, verify_by};
 use std::alloc::{AllocError, Global};
 use std::mem::forget;
 use std::process::Abort;
@@ -136,6 +136,24 @@ fn bad_edge(alloc: Global, n: u32) -> Result<Edge, AllocError> {
     Ok(edge)
 }
 
+/// Code that keeps an entry without paths.
+const KEEPS: [Instr; 5] = [
+    Instr::Text(0),
+    Instr::Zero,
+    Instr::NoPaths,
+    Instr::Keep,
+    Instr::End,
+];
+
+/// Returns the verified image of an edge that keeps an entry.
+pub(crate) fn keeping_edge(alloc: Global) -> Result<Verified, Refused> {
+    let mut keeping = edge(alloc, 0, &[], 0)?;
+    keeping.code = EdgeCode::Own(Items::new(Vec::from_slice(alloc, KEEPS.as_slice())?));
+    let mut edges = Vec::new(alloc);
+    edges.push(keeping)?;
+    image_of(alloc, &edges)
+}
+
 /// Appends 300 edges. Those from `bad` on take from an empty stack.
 fn add_bad_from(alloc: Global, edges: &mut Vec<Edge>, bad: u32) -> Result<(), AllocError> {
     for n in 0..300 {
@@ -217,7 +235,6 @@ impl<C: Clock> World for Gate<C> {
     fn run(
         &self,
         _number: u64,
-        _command: &[u8],
         _outputs: &RowList<u8>,
         permit: Permit,
     ) -> Result<Reply, AllocError> {
@@ -236,14 +253,7 @@ impl<C: Clock> World for Gate<C> {
         Ok(Reply::Nothing)
     }
 
-    fn keep(
-        &self,
-        _number: u64,
-        _output: &[u8],
-        _command: &[u8],
-        _basis: u64,
-        _paths: &PathList,
-    ) -> Result<Reply, AllocError> {
+    fn keep(&self, _number: u64, _order: &KeepOrder) -> Result<Reply, AllocError> {
         Ok(Reply::Kept)
     }
 }
@@ -306,7 +316,6 @@ impl World for Counted {
     fn run(
         &self,
         _number: u64,
-        _command: &[u8],
         _outputs: &RowList<u8>,
         permit: Permit,
     ) -> Result<Reply, AllocError> {
@@ -326,14 +335,7 @@ impl World for Counted {
         self.tell(Reply::Nothing)
     }
 
-    fn keep(
-        &self,
-        _number: u64,
-        _output: &[u8],
-        _command: &[u8],
-        _basis: u64,
-        _paths: &PathList,
-    ) -> Result<Reply, AllocError> {
+    fn keep(&self, _number: u64, _order: &KeepOrder) -> Result<Reply, AllocError> {
         self.tell(Reply::Kept)
     }
 }

@@ -4,7 +4,7 @@ use Rattle.std.specs.Prelude.{codes}
 use Rattle.plan_scope.specs.Edge.{Edge}
 use Rattle.plan_scope.specs.declared.manifest.Manifest.{Manifest}
 use Rattle.plan_graph.specs.declared.graph_data.Graph.{Graph}
-use Rattle.plan_tools.specs.Cleaning.{dead_outputs, edges_of_paths, is_cleaned, unless_empty}
+use Rattle.plan_tools.specs.Cleaning.{dead_outputs, edges_of_paths, files_of_commands, files_of_paths, files_of_rules, is_cleaned, unless_empty}
 use Rattle.plan_tools.specs.Commands.{command_in, line_of}
 use Rattle.plan_tools.specs.CompilationDatabase.{comma_before, if_used, named_or_all}
 use Rattle.plan_tools.specs.Inputs.{inputs_at}
@@ -128,6 +128,15 @@ unknown_path_is_dead = refl
 
 abbrev a_manifest : Manifest
 a_manifest = record { edges = an_edge false false ∷ an_edge false false ∷ an_edge true false ∷ []; pools = []; defaults = [] }
+
+files_without_those_of_phonies : files_of_commands a_manifest a_graph false ≡ codes "a.o" ∷ codes "app" ∷ []
+files_without_those_of_phonies = refl
+
+files_of_one_rule : files_of_rules a_manifest a_graph some_rules (codes "ld" ∷ []) ≡ codes "app" ∷ []
+files_of_one_rule = refl
+
+files_that_count : files_of_paths a_manifest a_graph (true ∷ true ∷ false ∷ true ∷ []) ≡ codes "a.o" ∷ []
+files_that_count = refl
 
 edge_of_needed_output : edges_of_paths a_manifest a_graph (true ∷ true ∷ false ∷ true ∷ []) ≡ 0 ∷ []
 edge_of_needed_output = refl

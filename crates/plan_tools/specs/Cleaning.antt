@@ -65,6 +65,20 @@ makes_counted m g counted n = holds_of (is_cleaned true) (slice_get m.edges n) &
 abbrev pub edges_of_paths : Manifest → Graph → (counted : List Bool) → List ℕ
 edges_of_paths m g counted = of_first (λ n. if makes_counted m g counted n then n ∷ [] else []) (length m.edges)
 
+-- ---- what is removed
+
+-- the files of all commands
+abbrev pub files_of_commands : Manifest → Graph → (generators : Bool) → List Text
+files_of_commands m g generators = files_of_edges m g None (edges_with (is_cleaned generators) m.edges)
+
+-- the files of the commands of these rules
+abbrev pub files_of_rules : Manifest → Graph → (rules names : List Text) → List Text
+files_of_rules m g rules names = files_of_edges m g None (edges_of_rules rules names m.edges)
+
+-- the outputs that count, and the depfiles of the commands that make them
+abbrev pub files_of_paths : Manifest → Graph → (counted : List Bool) → List Text
+files_of_paths m g counted = files_of_edges m g (Some counted) (edges_of_paths m g counted)
+
 -- those of these paths that no build line names
 abbrev pub dead_outputs : Graph → (outputs : List Text) → List Text
 dead_outputs g outputs = filter (λ path. not (is_among (paths_in g.files) path)) outputs

@@ -6,6 +6,7 @@ ghost use Rattle.plan_tools.specs.Cleaning as defined;
 ghost use Rattle.plan_tools.specs.Commands.{text_or_none};
 ghost use Rattle.plan_tools.specs.Listings.{path_at as path_of};
 
+use crate::removable::RemovableFiles;
 use crate::targets::path_at;
 use plan_graph::Graph;
 use plan_scope::{EdgeText, Manifest};
@@ -38,14 +39,7 @@ fn add_if(chosen: bool, edge: usize, edges: &mut Vec<u32>) -> Result<(), Memory>
 }
 
 /// Returns the edges that have a command, without generators unless these count, in the order of build lines.
-///
-/// # Errors
-/// Memory runs out.
-pub fn command_edges(
-    alloc: Global,
-    manifest: &Manifest,
-    generators: bool,
-) -> Result<Vec<u32>, Memory>
+fn command_edges(alloc: Global, manifest: &Manifest, generators: bool) -> Result<Vec<u32>, Memory>
     ensures { IfOk result (λ edges. edges.items ≡ defined.edges_with (defined.is_cleaned generators) manifest.now.edges) }
 {
     let mut edges = Vec::new(alloc);
@@ -75,10 +69,7 @@ fn has_rule(manifest: &Manifest, rules: &RowList<u8>, names: &[&[u8]], edge: usi
 }
 
 /// Returns the edges that have a command and one of these rules, in the order of build lines.
-///
-/// # Errors
-/// Memory runs out.
-pub fn edges_of_rules(
+fn edges_of_rules(
     alloc: Global,
     manifest: &Manifest,
     rules: &RowList<u8>,
@@ -191,23 +182,55 @@ fn add_files(
 
 /// Returns the outputs of some edges, and their depfiles. If `counted` has flags, leaves out the outputs that don't
 /// count.
-///
-/// # Errors
-/// Memory runs out.
-pub fn files_of_edges(
+fn files_of_edges(
     alloc: Global,
     manifest: &Manifest,
     graph: &Graph<'_>,
     counted: Option<&[bool]>,
     edges: &[u32],
-) -> Result<RowList<u8>, Memory>
+) -> Result<RemovableFiles, Memory>
     ensures { IfOk result (λ files. files ≡ defined.files_of_edges manifest.now graph.now (option_map (λ c. c.now) counted.entry) edges.now) }
 {
     let mut files = RowList::new(alloc);
     for edge in edges {
         add_files(alloc, manifest, graph, counted, *edge, &mut files)?;
     }
-    Ok(files)
+    Ok(RemovableFiles::of(files))
+}
+
+/// Returns the outputs and the depfiles of all edges that have a command, without generators unless these count, in the
+/// order of build lines.
+///
+/// # Errors
+/// If memory runs out.
+pub fn files_of_commands(
+    alloc: Global,
+    manifest: &Manifest,
+    graph: &Graph<'_>,
+    generators: bool,
+) -> Result<RemovableFiles, Memory>
+    ensures { IfOk result (λ files. files ≡ defined.files_of_commands manifest.now graph.now generators) }
+{
+    let edges = command_edges(alloc, manifest, generators)?;
+    files_of_edges(alloc, manifest, graph, None, &edges)
+}
+
+/// Returns the outputs and the depfiles of all edges that have a command and one of these rules, in the order of build
+/// lines. `rules` has the rule of each edge.
+///
+/// # Errors
+/// If memory runs out.
+pub fn files_of_rules(
+    alloc: Global,
+    manifest: &Manifest,
+    graph: &Graph<'_>,
+    rules: &RowList<u8>,
+    names: &[&[u8]],
+) -> Result<RemovableFiles, Memory>
+    ensures { IfOk result (λ files. files ≡ defined.files_of_rules manifest.now graph.now rules.now (map (λ n. n.now) names.now)) }
+{
+    let edges = edges_of_rules(alloc, manifest, rules, names)?;
+    files_of_edges(alloc, manifest, graph, None, &edges)
 }
 
 /// Checks whether one of some outputs counts.
@@ -230,10 +253,7 @@ fn makes_counted(manifest: &Manifest, graph: &Graph<'_>, counted: &[bool], edge:
 }
 
 /// Returns the edges that have a command and an output that counts, in the order of build lines.
-///
-/// # Errors
-/// Memory runs out.
-pub fn edges_of_paths(
+fn edges_of_paths(
     alloc: Global,
     manifest: &Manifest,
     graph: &Graph<'_>,
@@ -250,6 +270,23 @@ pub fn edges_of_paths(
         )?;
     }
     Ok(edges)
+}
+
+/// Returns the outputs that count of all edges that have a command, and the depfiles of edges that have such an output,
+/// in the order of build lines. `counted` has a flag for each path of the graph.
+///
+/// # Errors
+/// If memory runs out.
+pub fn files_of_paths(
+    alloc: Global,
+    manifest: &Manifest,
+    graph: &Graph<'_>,
+    counted: &[bool],
+) -> Result<RemovableFiles, Memory>
+    ensures { IfOk result (λ files. files ≡ defined.files_of_paths manifest.now graph.now counted.now) }
+{
+    let edges = edges_of_paths(alloc, manifest, graph, counted)?;
+    files_of_edges(alloc, manifest, graph, Some(counted), &edges)
 }
 
 /// Appends a path that no build line names.
@@ -271,12 +308,12 @@ pub fn dead_outputs(
     alloc: Global,
     graph: &Graph<'_>,
     outputs: &RowList<u8>,
-) -> Result<RowList<u8>, Memory>
+) -> Result<RemovableFiles, Memory>
     ensures { IfOk result (λ dead. dead ≡ defined.dead_outputs graph.now outputs.now) }
 {
     let mut dead = RowList::new(alloc);
     for number in 0..outputs.len() {
         add_dead(graph, outputs.row(number), &mut dead)?;
     }
-    Ok(dead)
+    Ok(RemovableFiles::of(dead))
 }

@@ -8,8 +8,9 @@
 //! - `build_order`: what targets need, each edge behind those that it waits for; `write_build_commands`: their
 //!   commands.
 //! - `needed_paths`: the paths that targets need.
-//! - `command_edges`, `edges_of_rules`, `edges_of_paths`, `files_of_edges`: the files that `-t clean` removes.
-//! - `dead_outputs`: those that `-t cleandead` removes.
+//! - `files_of_commands`, `files_of_rules`, `files_of_paths`: the files that `-t clean` removes. `dead_outputs`: those
+//!   that `-t cleandead` removes.
+//! - `Removable`, `RemovableFiles`: the files that these calls chose. Nothing else creates them.
 //! - `closest`, `closest_path`: the word that is meant by another one.
 //!
 //! Edges are named by their numbers in the manifest, from 0; paths by their numbers in the graph. Source: ninja's own
@@ -23,6 +24,7 @@ mod json;
 mod need;
 mod order;
 mod parts;
+mod removable;
 mod roots;
 mod rule_listing;
 mod rules;
@@ -31,11 +33,12 @@ mod targets;
 mod tree;
 mod tree_fault;
 
-pub use cleaning::{command_edges, dead_outputs, edges_of_paths, edges_of_rules, files_of_edges};
+pub use cleaning::{dead_outputs, files_of_commands, files_of_paths, files_of_rules};
 pub use commands::write_build_commands;
 pub use compilation_database::{chosen_edges, write_compilation_database};
 pub use need::needed_paths;
 pub use order::{OrderFault, build_order};
+pub use removable::{Removable, RemovableFiles};
 pub use roots::{default_paths, root_paths};
 pub use rule_listing::write_rule_targets;
 pub use rules::rules_of;

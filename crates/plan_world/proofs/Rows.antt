@@ -1,5 +1,5 @@
 -- The world by hand: the definitions compute what docs/rules/world.md says.
-use Rattle.std.proofs.Common.{◌≡◌, [], ◌∷◌, ◌++◌, Some, None, refl, pos, negsuc, true, false, length}
+use Rattle.std.proofs.Common.{◌≡◌, List, ℕ, [], ◌∷◌, ◌++◌, Option, Some, None, refl, pos, negsuc, true, false, length}
 use Rattle.std.specs.List.{list_all}
 use Rattle.std.proofs.Math.ListN.{replicate}
 use Rattle.plan_text.specs.Path.{components_of}
@@ -7,7 +7,8 @@ use Rattle.plan_record.specs.Entries.{EntryData, spelling}
 use Rattle.plan_verify.specs.Seam.{suits}
 use Rattle.plan_verify.specs.Turn.{Stat, Run, Keep}
 use Rattle.plan_machine.specs.Step.{answer_of}
-use Rattle.plan_machine.specs.declared.event.reply.Reply.TheVariants.{Stamp, Exit, Signal, Kept}
+use Rattle.plan_machine.specs.declared.event.reply.Reply.TheVariants.{Bytes, Stamp, Exit, Signal, Kept, Nothing}
+use Rattle.plan_world.specs.Answers.{IsReadOf, IsStampOf}
 use Rattle.plan_world.specs.Askable.{is_name}
 use Rattle.plan_world.specs.StartRecorded.{begun, begun_keeping, begun_with, ended, first_named, missing_path, paths_read}
 use Rattle.plan_world.specs.Recording.{EndsWith, edge_entry, may_begin}
@@ -15,6 +16,7 @@ use Rattle.plan_world.specs.NinjaLog.{log_lines}
 use Rattle.plan_world.specs.Rewriting.{restated}
 use Rattle.plan_world.specs.Shells.{ending, record_variable}
 use Rattle.plan_world.specs.Stamps.{stamp_of}
+use Rattle.plan_world.specs.declared.disk.ModificationTime.{ModificationTime}
 
 second_and_seven : stamp_of (pos 1000000000) (pos 7) ≡ 1000000000000000007
 second_and_seven = refl
@@ -27,6 +29,29 @@ before_1970 = refl
 
 too_late : stamp_of (pos 18446744074) (pos 0) ≡ 18446744073709551615
 too_late = refl
+
+-- ---- a disk with the file `a`, which has the byte 58 and was changed after a second
+
+abbrev a_second : ModificationTime
+a_second = record { seconds = pos 1; nanoseconds = pos 0 }
+
+abbrev one_time : List ℕ → Option ModificationTime → Type 0
+one_time path time = (path ≡ 97 ∷ []) × (time ≡ Some a_second)
+
+abbrev one_file : List ℕ → Option (List ℕ) → Type 0
+one_file path bytes = (path ≡ 97 ∷ []) × (bytes ≡ Some (58 ∷ []))
+
+stamp_of_the_file : IsStampOf one_time (97 ∷ []) (Stamp 1000000000)
+stamp_of_the_file = (Some a_second, (refl, refl), refl)
+
+no_stamp_of_another_file : IsStampOf one_time (98 ∷ []) (Stamp 1) → ⊥
+no_stamp_of_another_file h = let same : ◌≡◌ {A = List ℕ} (98 ∷ []) (97 ∷ []) = h.1.0 in cc
+
+bytes_of_the_file : IsReadOf one_file (97 ∷ []) (Bytes (58 ∷ []))
+bytes_of_the_file = (refl, refl)
+
+file_is_not_missing : IsReadOf one_file (97 ∷ []) Nothing → ⊥
+file_is_not_missing h = let same : ◌≡◌ {A = Option (List ℕ)} None (Some (58 ∷ [])) = h.1 in cc
 
 exit_three : ending (Some (pos 3)) ≡ Exit 3
 exit_three = refl

@@ -1,7 +1,9 @@
 //! The real world of a running image: files, commands and the build record.
 //!
 //! - `RealWorld`: stamps of files, commands run by `/bin/sh`, depfiles, and a record file that is open.
+//! - `Disk`: looks at files, and reads depfiles. `SystemDisk`: the files of the system.
 //! - `Shells`: starts the shells of commands and waits for them. `SystemShells`: the shells of the system.
+//!   `PermittedShell`: the shell of a permitted command, the only kind that is started.
 //! - `OpenFault`: why a record can't be opened.
 //! - `recompact`, `restat`, `recorded_outputs`, `recorded_paths`: rewrite or list a record between builds.
 //!   `ReadingMode`: whether a list waits for a build.
@@ -17,6 +19,7 @@ mod begins;
 mod builder_lock;
 mod circles;
 mod depfile;
+mod disk;
 mod ended_entries;
 mod fault;
 mod holders;
@@ -24,6 +27,7 @@ mod maintenance;
 mod manifest_paths;
 mod ninja_log;
 mod parts;
+mod permitted_shell;
 mod processes;
 mod read_depfiles;
 mod reasons;
@@ -40,8 +44,10 @@ mod waiting;
 mod world;
 
 pub use builder_lock::{SharedFile, VARIABLE};
+pub use disk::{Disk, ModificationTime, SystemDisk};
 pub use fault::OpenFault;
 pub use maintenance::{ReadingMode, recompact, recorded_outputs, recorded_paths, restat};
+pub use permitted_shell::PermittedShell;
 pub use processes::{Process, all_processes, own_process, with_below};
 pub use shell::{Printed, Shells, SystemShells};
 pub use taking_over::take_over;

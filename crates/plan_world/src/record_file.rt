@@ -1,6 +1,6 @@
 //! The record's file, while it is open.
 
-ghost use Rattle.std.specs.Prelude.{◌≡◌, ◌+◌, ◌*◌, ◌++◌, ◌∷◌, [], false, true, IfOk, IfSome, OnOk, OnErr, get_or, map};
+ghost use Rattle.std.specs.Prelude.{◌≡◌, ◌≤◌, ◌+◌, ◌*◌, ◌++◌, ◌∷◌, [], false, true, IfOk, IfSome, OnOk, OnErr, get_or, map};
 ghost use Rattle.std.specs.Io.KnownBytes.{Appends};
 ghost use Rattle.std.specs.List.{flat_map};
 ghost use Rattle.plan_record.specs.Among.{AreAmong};
@@ -17,9 +17,9 @@ use crate::record_sink::{
     read_among,
 };
 use crate::stamp::stamp_at;
+use plan_lanes::KeepOrder;
 use plan_record::{Entry, Record, load, read_entries, spellings};
 use plan_text::{PathFilter, RowList};
-use plan_verify::PathList;
 use std::alloc::Global;
 use std::fs::{self, Metadata, OpenFile};
 use std::io::{ErrorKind, Read, Seek, Write};
@@ -53,10 +53,8 @@ impl<'a> Model for StartRecorded<'a> {
 /// A token: the record has the entry of an edge that ran. Nothing else creates one. Contracts see the entry.
 #[derive(Drop)]
 pub(crate) struct Kept<'a> {
-    output: &'a [u8],
-    command: &'a [u8],
+    order: &'a KeepOrder,
     basis: u64,
-    paths: &'a PathList,
 }
 
 impl<'a> Model for Kept<'a> {
@@ -65,7 +63,7 @@ impl<'a> Model for Kept<'a> {
 
     ghost Value = { EntryData };
 
-    ghost view = { λ k. edge_entry k.output.now k.command.now k.basis k.paths.now };
+    ghost view = { λ k. edge_entry k.order.now.output k.order.now.command k.basis k.order.now.paths };
 }
 
 /// The record, open for more entries. Each entry of it is one that the file had when it was opened, one that this
@@ -487,30 +485,24 @@ impl<F: Read + Write + Seek + OpenFile + SharedFile> RecordFile<F> {
         kept
     }
 
-    /// Appends the entry of an edge that ran.
+    /// Appends the entry of an order, with a basis that is at most that of the order.
     pub(crate) fn keep_edge<'a>(
         &mut self,
         alloc: Global,
-        output: &'a [u8],
-        command: &'a [u8],
+        order: &'a KeepOrder,
         basis: u64,
-        paths: &'a PathList,
     ) -> Result<Kept<'a>, DeviceFault>
-        ensures proof { IfOk result (λ k. k ≡ edge_entry output.now command.now basis paths.now) }
-        ensures within { OnOk result (HasSpelling (edge_entry output.now command.now basis paths.now)) }
-        ensures kept { OnOk result (EndsWith self.old.entries self.new.entries (edge_entry output.now command.now basis paths.now)) }
-        ensures written { OnOk result (IsWritten F.contents self.new.file (spelling (edge_entry output.now command.now basis paths.now))) }
+        requires { basis ≤ order.now.basis }
+        ensures proof { IfOk result (λ k. k ≡ edge_entry order.now.output order.now.command basis order.now.paths) }
+        ensures within { OnOk result (HasSpelling (edge_entry order.now.output order.now.command basis order.now.paths)) }
+        ensures kept { OnOk result (EndsWith self.old.entries self.new.entries (edge_entry order.now.output order.now.command basis order.now.paths)) }
+        ensures written { OnOk result (IsWritten F.contents self.new.file (spelling (edge_entry order.now.output order.now.command basis order.now.paths))) }
         ensures lost { OnErr result (Grows self.old.entries self.new.entries) }
         ensures well { OnOk result ((self.old.broken ≡ false) × (self.new.broken ≡ false)) }
     {
-        let entry = entry_of(alloc, output, command, basis, paths)?;
+        let entry = entry_of(alloc, order.output(), order.command(), basis, order.paths())?;
         self.keep(alloc, entry)?;
-        Ok(Kept {
-            output,
-            command,
-            basis,
-            paths,
-        })
+        Ok(Kept { order, basis })
     }
 
     /// Appends entries to the file, which ends with the last entry, by one write. If it fails, cuts the file back.

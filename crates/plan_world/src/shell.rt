@@ -5,34 +5,25 @@ ghost use Rattle.std.specs.Io.KnownBytes.{Appends};
 ghost use Rattle.plan_machine.specs.declared.event.reply.Reply.TheVariants.{NotStarted};
 ghost use Rattle.plan_verify.specs.Turn.{Run};
 ghost use Rattle.plan_world.specs.Answers.{IsAnswer, IsByShell};
-ghost use Rattle.plan_world.specs.Shells.{AreTexts, HasRun, IsShellOf, ending};
+ghost use Rattle.plan_world.specs.Shells.{AreTexts, HasRun, ending};
 
-use crate::builder_lock::{BuilderLock, SharedFile, VARIABLE};
+use crate::builder_lock::{BuilderLock, SharedFile};
 use crate::fault::DeviceFault;
+use crate::permitted_shell::PermittedShell;
 use crate::reasons::say;
 use crate::record_file::StartRecorded;
 use crate::running_shells::RunningShells;
+use plan_lanes::Permit;
 use plan_machine::Reply;
 use plan_output::shown_output;
 use plan_text::RowList;
 use std::alloc::{AllocError, Global};
 use std::io::{self, ErrorKind, PipeReader, Read, Write};
 use std::path::Path;
-use std::process::{Child, Command, ExitStatus, OpenProcess, Processes};
+use std::process::{Child, ExitStatus, OpenProcess, Processes};
 use std::rt::Files;
 use std::sync::{Mutex, Wait};
 use std::{fs, str};
-
-/// Returns the shell with a command as its argument, and with these names of builders in its environment. A
-/// command that begins with a hyphen isn't taken as an option.
-fn shell_of(alloc: Global, text: &str, records: &str) -> Result<Command, AllocError>
-    ensures { IfOk result (λ command. IsShellOf command text.now records.now) }
-{
-    let mut shell = Command::new(alloc, "/bin/sh")?;
-    shell.arg("-c")?.arg("--")?.arg(text)?;
-    shell.env(VARIABLE, records)?;
-    Ok(shell)
-}
 
 /// Returns the reply to a command whose shell ended with this exit code, or by a signal if there is none.
 fn exit_reply(code: Option<i32>) -> Reply
@@ -128,10 +119,10 @@ fn run_aside<R: Print + Wait + AllocGlobal, S: Shells>(
     rt: &R,
     screen: &Mutex<()>,
     shells: &S,
-    shell: Command,
+    shell: PermittedShell,
     edge: &[u8],
 ) -> Result<Option<i32>, DeviceFault>
-    ensures { IfOk result (λ code. S.ended shell code) }
+    ensures { IfOk result (λ code. S.ended shell.shell code) }
 {
     let Printed { status, text } = shells.output(shell, edge)?;
     show(rt, screen, text)?;
@@ -144,10 +135,10 @@ fn run_on_terminal<R: Wait, S: Shells>(
     rt: &R,
     screen: &Mutex<()>,
     shells: &S,
-    shell: Command,
+    shell: PermittedShell,
     edge: &[u8],
 ) -> Result<Option<i32>, DeviceFault>
-    ensures { IfOk result (λ code. S.ended shell code) }
+    ensures { IfOk result (λ code. S.ended shell.shell code) }
 {
     shells.wait_for_label(edge);
     let guard = screen.lock(rt);
@@ -165,36 +156,29 @@ fn say_if_lost<R: Eprint>(rt: &R, output: &[u8], ended: Result<Option<i32>, Devi
     }
 }
 
-/// Returns a shell whose standard input is the file of the lock.
+/// Runs the command of a permit by a shell whose standard input is the file of the lock, and shows its output.
 ///
 /// # Errors
-/// The file can't be given to the command, and `Memory`.
-fn shell_with<F: SharedFile>(
-    alloc: Global,
-    text: &str,
-    records: &str,
-    lock: &BuilderLock<F>,
-) -> Result<Command, DeviceFault>
-    ensures { IfOk result (λ command. IsShellOf command text.now records.now) }
-{
-    let mut shell = shell_of(alloc, text, records)?;
-    shell.stdin(lock.input()?);
-    Ok(shell)
-}
-
-/// Runs a command by a shell whose standard input is the file of the lock, and shows its output.
+/// The file can't be given to the shell, the shell can't be started or waited for, and `Memory`.
 fn run_with<R: Print + Wait + AllocGlobal, S: Shells, F: SharedFile>(
     rt: &R,
     screen: &Mutex<()>,
     shells: &S,
-    text: &str,
+    permit: Permit,
     records: &str,
     lock: &BuilderLock<F>,
     edge: &[u8],
 ) -> Result<Option<i32>, DeviceFault>
-    ensures { IfOk result (λ code. HasRun S.ended text.now code) }
+    ensures { IfOk result (λ code. HasRun S.ended permit.command code) }
 {
-    let shell = shell_with(rt.alloc(), text, records, lock)?;
+    let input = match lock.input() {
+        Ok(input) => input,
+        Err(error) => {
+            permit.spend();
+            return Err(DeviceFault::from(error));
+        }
+    };
+    let shell = PermittedShell::of(rt.alloc(), permit, records, Some(input))?;
     run_aside(rt, screen, shells, shell, edge)
 }
 
@@ -203,42 +187,41 @@ fn run_in_turn<R: Print + Wait + AllocGlobal, S: Shells, F: SharedFile>(
     rt: &R,
     screen: &Mutex<()>,
     shells: &S,
-    text: &str,
+    permit: Permit,
     records: &str,
     lock: &BuilderLock<F>,
     edge: &[u8],
 ) -> Result<Option<i32>, DeviceFault>
-    ensures { IfOk result (λ code. HasRun S.ended text.now code) }
+    ensures { IfOk result (λ code. HasRun S.ended permit.command code) }
 {
     shells.wait_for_turn();
-    let ended = run_with(rt, screen, shells, text, records, lock, edge);
+    let ended = run_with(rt, screen, shells, permit, records, lock, edge);
     shells.end_turn();
     ended
 }
 
-/// Runs a command by a shell, on the terminal if it is a console command.
-fn run_text<R: Print + Wait + AllocGlobal, S: Shells, F: SharedFile>(
+/// Runs the command of a permit by a shell, on the terminal if it is a console command.
+fn run_permitted<R: Print + Wait + AllocGlobal, S: Shells, F: SharedFile>(
     rt: &R,
     screen: &Mutex<()>,
     shells: &S,
-    text: &str,
-    console: bool,
+    permit: Permit,
     lock: &BuilderLock<F>,
     edge: &[u8],
 ) -> Result<Option<i32>, DeviceFault>
-    ensures { IfOk result (λ code. HasRun S.ended text.now code) }
+    ensures { IfOk result (λ code. HasRun S.ended permit.command code) }
 {
     let records = lock.names();
-    if console {
-        let shell = shell_of(rt.alloc(), text, records)?;
+    if permit.console() {
+        let shell = PermittedShell::of(rt.alloc(), permit, records, None)?;
         return run_on_terminal(rt, screen, shells, shell, edge);
     }
-    run_in_turn(rt, screen, shells, text, records, lock, edge)
+    run_in_turn(rt, screen, shells, permit, records, lock, edge)
 }
 
-/// Runs the command of an edge whose start entry is in the record. A console command runs on the terminal. The standard
-/// input of any other command is the empty file of the lock, which it then shares, and its output is shown when it has
-/// ended. If the shell can't be started, reports the reason on standard error.
+/// Runs the command of a permit, whose edge has its start entry in the record. A console command runs on the terminal.
+/// The standard input of any other command is the empty file of the lock, which it then shares, and its output is shown
+/// when it has ended. If the shell can't be started, reports the reason on standard error.
 ///
 /// # Errors
 /// `AllocError` if memory runs out. If it ran out for the output of the command, the command was killed.
@@ -246,21 +229,21 @@ pub(crate) fn run_shell<R: Print + Eprint + Wait + AllocGlobal, S: Shells, F: Sh
     rt: &R,
     screen: &Mutex<()>,
     shells: &S,
-    command: &[u8],
-    console: bool,
+    permit: Permit,
     outputs: &RowList<u8>,
     lock: &BuilderLock<F>,
     begun: StartRecorded<'_>,
 ) -> Result<Reply, AllocError>
     requires { slice_get outputs.now 0 ≡ Some begun }
-    ensures suits { IfOk result (λ r. IsAnswer (Run command.now outputs.now) r) }
-    ensures no_text { ¬ (IsUtf8 command.now) → result ≡ Ok NotStarted }
-    ensures ran { IfOk result (λ r. IsByShell S.ended command.now r) }
+    ensures suits { IfOk result (λ r. IsAnswer (Run permit.command outputs.now) r) }
+    ensures no_text { ¬ (IsUtf8 permit.command) → result ≡ Ok NotStarted }
+    ensures ran { IfOk result (λ r. IsByShell S.ended permit.command r) }
 {
-    let Ok(text) = str::from_utf8(command) else {
+    if str::from_utf8(permit.command()).is_err() {
+        permit.spend();
         return Ok(Reply::NotStarted);
-    };
-    let ended = run_text(rt, screen, shells, text, console, lock, outputs.row(0));
+    }
+    let ended = run_permitted(rt, screen, shells, permit, lock, outputs.row(0));
     say_if_lost(rt, outputs.row(0), ended);
     reply_of_shell(ended)
 }
@@ -283,7 +266,8 @@ pub trait Shells {
     ghost use Rattle.std.specs.declared.alloc.Global.{Global};
     ghost use Rattle.std.specs.declared.process.command.Command.{Command as Shell};
 
-    /// This shell was started and waited for. It ended with this status, or without a status if a signal ended it.
+    /// This shell, which a permit started, was waited for. It ended with this status, or without a status if a signal
+    /// ended it.
     ghost ended: { Shell Global → Option ℤ → Type 0 };
 
     /// Runs the shell of an edge with the standard input that it has. Returns its exit status, and the part of its
@@ -291,8 +275,8 @@ pub trait Shells {
     ///
     /// # Errors
     /// The shell can't be started or waited for, or memory runs out for its output. Then the shell was killed.
-    fn output(&self, shell: Command, edge: &[u8]) -> io::Result<Printed>
-        ensures { IfOk result (λ printed. Self.ended shell (exit_code printed.status)) };
+    fn output(&self, shell: PermittedShell, edge: &[u8]) -> io::Result<Printed>
+        ensures { IfOk result (λ printed. Self.ended shell.shell (exit_code printed.status)) };
 
     /// Shows the reason why the command of an edge is going to run. `edge` is the first output of the edge. The screen
     /// isn't locked.
@@ -312,8 +296,8 @@ pub trait Shells {
     ///
     /// # Errors
     /// The shell can't be started or waited for.
-    fn status(&self, shell: Command) -> io::Result<ExitStatus>
-        ensures { IfOk result (λ status. Self.ended shell (exit_code status)) };
+    fn status(&self, shell: PermittedShell) -> io::Result<ExitStatus>
+        ensures { IfOk result (λ status. Self.ended shell.shell (exit_code status)) };
 }
 
 /// The system's shells. The kit's contracts say nothing about a process that was started. So `ended` allows everything
@@ -361,9 +345,9 @@ fn read_until_end<P: OpenProcess, R: Read>(
 /// ends when the command has.
 fn started<R: Processes + Files>(
     rt: &R,
-    shell: Command,
+    shell: PermittedShell,
 ) -> io::Result<(Child<R::Started>, PipeReader)> {
-    let mut shell = shell;
+    let mut shell = shell.into_shell();
     let (reader, writer) = io::pipe(rt)?;
     shell.stdout(writer.try_clone()?);
     shell.stderr(writer);
@@ -386,7 +370,7 @@ fn printed_by<P: OpenProcess + Drop>(
 impl<R: Processes + Files + Wait + Eprint + AllocGlobal> Shells for SystemShells<R> {
     ghost ended = { λ _ _. Unit {0} };
 
-    fn output(&self, shell: Command, _edge: &[u8]) -> io::Result<Printed> {
+    fn output(&self, shell: PermittedShell, _edge: &[u8]) -> io::Result<Printed> {
         self.running.begin_start(&self.rt);
         let started = started(&self.rt, shell);
         self.running.end_start(&self.rt);
@@ -405,8 +389,8 @@ impl<R: Processes + Files + Wait + Eprint + AllocGlobal> Shells for SystemShells
     /// Returns at once, since labels come after commands.
     fn wait_for_label(&self, _edge: &[u8]) {}
 
-    fn status(&self, shell: Command) -> io::Result<ExitStatus> {
-        let mut shell = shell;
+    fn status(&self, shell: PermittedShell) -> io::Result<ExitStatus> {
+        let mut shell = shell.into_shell();
         shell.status(&self.rt)
     }
 }

@@ -4,10 +4,11 @@ ghost use Rattle.std.specs.Prelude.{◌≡◌, ◌≤◌, ◌↔◌, List, ℕ, 
 ghost use Rattle.std.specs.IoError.{error_kind};
 ghost use Rattle.plan_machine.specs.declared.event.reply.Reply.TheVariants.{Fault, Stamp};
 ghost use Rattle.plan_verify.specs.Turn.{Stat};
-ghost use Rattle.plan_world.specs.Answers.{IsAnswer};
+ghost use Rattle.plan_world.specs.Answers.{IsAnswer, IsStampOf};
 ghost use Rattle.plan_world.specs.Faults.{IsMissing, IsToldOf};
-ghost use Rattle.plan_world.specs.Stamps.{IsThere, stamp_of};
+ghost use Rattle.plan_world.specs.Stamps.{stamp_of};
 
+use crate::disk::{Disk, ModificationTime};
 use crate::fault::{DeviceFault, without};
 use plan_machine::Reply;
 use std::alloc::AllocError;
@@ -35,14 +36,14 @@ pub(crate) fn stamp_at(seconds: i64, nanoseconds: i64) -> u64
 }
 
 /// Returns the reply for a file that was looked up.
-fn seen(found: io::Result<Metadata>) -> Result<Reply, AllocError>
-    ensures there { OnOk found (IsOkAnd result IsThere) }
+fn seen(found: io::Result<ModificationTime>) -> Result<Reply, AllocError>
+    ensures there { IfOk found (λ time. result ≡ Ok (Stamp (stamp_of time.seconds time.nanoseconds))) }
     ensures memory { IfErr found (λ e. IsErr result ↔ (error_kind e ≡ ErrorKind.OutOfMemory)) }
     ensures told { IfErr found (λ e. IfOk result (λ r. IsToldOf (error_kind e) (Stamp 0) r)) }
     ensures suits { (path : List ℕ) → IfOk result (λ r. IsAnswer (Stat path) r) }
 {
     match found {
-        Ok(file) => Ok(Reply::Stamp(stamp_at(file.mtime(), file.mtime_nsec()))),
+        Ok(time) => Ok(Reply::Stamp(stamp_at(time.seconds, time.nanoseconds))),
         Err(error) => without(error, Reply::Stamp(0)),
     }
 }
@@ -51,14 +52,15 @@ fn seen(found: io::Result<Metadata>) -> Result<Reply, AllocError>
 ///
 /// # Errors
 /// `AllocError` if memory runs out. If the path isn't UTF-8 or the file can't be looked up, the reply is `Fault`.
-pub(crate) fn stat<R: Files>(rt: &R, path: &[u8]) -> Result<Reply, AllocError>
+pub(crate) fn stat<D: Disk>(disk: &D, path: &[u8]) -> Result<Reply, AllocError>
     ensures suits { IfOk result (λ r. IsAnswer (Stat path.now) r) }
     ensures no_text { ¬ (IsUtf8 path.now) → result ≡ Ok Fault }
+    ensures looked { IfOk result (λ r. IsStampOf D.looked path.now r) }
 {
     let Ok(path) = str::from_utf8(path) else {
         return Ok(Reply::Fault);
     };
-    seen(fs::metadata(rt, path))
+    seen(disk.modified(path))
 }
 
 /// Returns the stamp of a file that was looked up, or 0 if it is missing.

@@ -2,17 +2,21 @@
 
 mod begins;
 mod commands;
+mod disk;
 mod failing;
 mod kept_paths;
 mod ninja_log;
+mod orders;
 mod reading;
 mod recalling;
 mod record;
 
 use crate::holders::{BuilderName, builder_named, holder_in_line};
 use crate::processes::{FileName, process_in};
+use crate::tests::orders::{order_of, permit_of};
 use crate::{
-    Process, RealWorld, SharedFile, Shells, SystemShells, all_processes, own_process, with_below,
+    Disk, Process, RealWorld, SharedFile, Shells, SystemDisk, SystemShells, all_processes,
+    own_process, with_below,
 };
 use plan_lanes::World;
 use plan_machine::{Depfile, Recorded, Reply};
@@ -26,6 +30,9 @@ use std::rt::Files;
 use std::sync::Wait;
 use std::test::Fail;
 use std::{fs, process};
+
+/// A world of the system's shells and files.
+type SystemWorld = RealWorld<HostRuntime, SystemShells<HostRuntime>, SystemDisk<HostRuntime>>;
 
 /// The entry of output `a`, command `t`, basis 7 and no paths.
 const ENTRY: [u8; 24] = [
@@ -74,12 +81,14 @@ fn said(alloc: Global, reply: Reply) -> Result<String, AllocError> {
 }
 
 /// Opens a world with its record in a folder.
-fn world_in(
-    rt: &HostRuntime,
-    folder: &str,
-) -> Result<RealWorld<HostRuntime, SystemShells<HostRuntime>>, Fail> {
+fn world_in(rt: &HostRuntime, folder: &str) -> Result<SystemWorld, Fail> {
     let record = format!(in rt.alloc(); "{folder}/record")?;
-    Ok(RealWorld::open(rt.clone()?, SystemShells::new(rt.clone()?), record.as_str())?)
+    Ok(RealWorld::open(
+        rt.clone()?,
+        SystemShells::new(rt.clone()?),
+        SystemDisk::new(rt.clone()?),
+        record.as_str(),
+    )?)
 }
 
 /// Returns the bytes of a record that has the entry of 24 bytes this many times.
@@ -119,10 +128,10 @@ fn has_stamp<W: World>(rt: &impl Abort, alloc: Global, world: &W, path: &[u8]) -
 }
 
 /// Checks the reply, in words, to a command.
-fn start_is<R: Files + Print + Eprint + Wait + AllocGlobal, S: Shells>(
+fn start_is<R: Files + Print + Eprint + Wait + AllocGlobal, S: Shells, D: Disk>(
     rt: &impl Abort,
     alloc: Global,
-    world: &RealWorld<R, S>,
+    world: &RealWorld<R, S, D>,
     command: &[u8],
     console: bool,
     outputs: &RowList<u8>,
@@ -131,7 +140,8 @@ fn start_is<R: Files + Print + Eprint + Wait + AllocGlobal, S: Shells>(
 where
     R::File: Read + Write + Seek + OpenFile + SharedFile + Drop,
 {
-    let answer = said(alloc, world.start(command, console, outputs)?)?;
+    let permit = permit_of(alloc, command, console)?;
+    let answer = said(alloc, world.start(permit, outputs)?)?;
     assert_eq!(rt; answer.as_str(), reply);
     Ok(())
 }
@@ -145,7 +155,8 @@ fn keep_is<W: World>(
     paths: &PathList,
     reply: &str,
 ) -> Result<(), Fail> {
-    let answer = said(alloc, world.keep(0, output, b"t", 7, paths)?)?;
+    let order = order_of(alloc, output, b"t", 7, paths)?;
+    let answer = said(alloc, world.keep(0, &order)?)?;
     assert_eq!(rt; answer.as_str(), reply);
     Ok(())
 }
@@ -209,10 +220,10 @@ fn lent_to_lanes(rt: HostRuntime) -> Result<(), Fail> {
 }
 
 /// Checks the stamp of a file after a command set its date.
-fn dates_are_stamps<R: Files + Print + Eprint + Wait + AllocGlobal, S: Shells>(
+fn dates_are_stamps<R: Files + Print + Eprint + Wait + AllocGlobal, S: Shells, D: Disk>(
     rt: &impl Abort,
     alloc: Global,
-    world: &RealWorld<R, S>,
+    world: &RealWorld<R, S, D>,
     file: &str,
 ) -> Result<(), Fail>
 where

@@ -12,6 +12,7 @@ use crate::askable::{are_askable, are_rows_askable};
 use crate::begins::{Begins, basis_from, is_later};
 use crate::builder_lock::{BuilderLock, SharedFile, is_unwritable, take_lock};
 use crate::depfile::{count_named, read_depfile};
+use crate::disk::Disk;
 use crate::ended_entries::EndedEntries;
 use crate::fault::{DeviceFault, OpenFault};
 use crate::manifest_paths::ManifestPaths;
@@ -25,11 +26,10 @@ use crate::record_sink::{
 use crate::rewriting::compact_grown;
 use crate::shell::{Shells, make_folders, run_shell};
 use crate::stamp::{is_file, stamp_at, stat};
-use plan_lanes::{Permit, World};
+use plan_lanes::{KeepOrder, Permit, World};
 use plan_machine::{Recorded, Reply};
 use plan_record::Entry;
 use plan_text::{PathFilter, RowList};
-use plan_verify::PathList;
 use std::alloc::{AllocError, Global};
 use std::env::Env;
 use std::fs::{self, OpenFile};
@@ -45,10 +45,12 @@ use std::time::{Clock, SystemTime, UNIX_EPOCH};
 /// Before a command is started, the record says that its edge was begun. So an edge whose command failed or was
 /// interrupted is out of date the next time. A program creates the world in `main`, with its own runtime.
 #[derive(Drop)]
-pub struct RealWorld<R: Files, S> {
+pub struct RealWorld<R: Files, S, D> {
     rt: R,
     /// Runs the shells of commands.
     shells: S,
+    /// Looks at files, and reads depfiles.
+    disk: D,
     /// Locked while the output of a command is written, and while a console command runs.
     screen: Mutex<()>,
     /// Unparked before a command is started.
@@ -71,11 +73,11 @@ pub struct RealWorld<R: Files, S> {
     depfiles: ReadDepfiles,
 }
 
-impl<R: Files + Env + Clock + Eprint + AllocGlobal, S> RealWorld<R, S>
+impl<R: Files + Env + Clock + Eprint + AllocGlobal, S, D> RealWorld<R, S, D>
 where
     R::File: Read + Write + Seek + OpenFile + SharedFile + Drop,
 {
-    /// Opens the world of a runtime and of shells, with the record at this path. Creates an empty record if it is
+    /// Opens the world of a runtime, of shells and of files, with the record at this path. Creates an empty record if it is
     /// missing. Its folder must exist. A record that may not be written is only read.
     ///
     /// Waits while another builder uses the record, or a command of a builder that was killed, and reports that on
@@ -86,12 +88,13 @@ where
     /// # Errors
     /// `Device` if the record or its lock can't be created, read, locked or cut, if the lock is a symbolic link, or if
     /// the builder that holds it waits for this one in another folder, and `Memory`.
-    pub fn open(rt: R, shells: S, record: &str) -> Result<RealWorld<R, S>, OpenFault>
+    pub fn open(rt: R, shells: S, disk: D, record: &str) -> Result<RealWorld<R, S, D>, OpenFault>
     where
         R: Clone + Drop,
         S: Drop,
+        D: Drop,
     {
-        RealWorld::open_with(rt, shells, record, None)
+        RealWorld::open_with(rt, shells, disk, record, None)
     }
 
     /// Opens the world of the stricter rule, like `open`. In this world each output of an edge has a start entry before
@@ -101,14 +104,20 @@ where
     ///
     /// # Errors
     /// As for `open`.
-    pub fn open_stricter(rt: R, shells: S, record: &str) -> Result<RealWorld<R, S>, OpenFault>
+    pub fn open_stricter(
+        rt: R,
+        shells: S,
+        disk: D,
+        record: &str,
+    ) -> Result<RealWorld<R, S, D>, OpenFault>
     where
         R: Clone + Drop,
         S: Drop,
+        D: Drop,
     {
         let ninja_log = NinjaLog::next_to(rt.alloc(), record)?;
         let begins = Begins::new(rt.alloc(), ninja_log);
-        RealWorld::open_with(rt, shells, record, Some(begins))
+        RealWorld::open_with(rt, shells, disk, record, Some(begins))
     }
 
     /// Opens the world of the stricter rule for a build that runs no commands. Reads the record, which may be missing,
@@ -117,43 +126,53 @@ where
     ///
     /// # Errors
     /// `Device` if the record can't be read, and `Memory`.
-    pub fn open_reading(rt: R, shells: S, record: &str) -> Result<RealWorld<R, S>, OpenFault>
+    pub fn open_reading(
+        rt: R,
+        shells: S,
+        disk: D,
+        record: &str,
+    ) -> Result<RealWorld<R, S, D>, OpenFault>
     where
         R: Drop,
         S: Drop,
+        D: Drop,
     {
         let ninja_log = NinjaLog::next_to(rt.alloc(), record)?;
         let begins = Begins::new(rt.alloc(), ninja_log);
         let opened = open_for_reading(&rt, record);
-        RealWorld::with_opened(rt, shells, record, Some(begins), opened)
+        RealWorld::with_opened(rt, shells, disk, record, Some(begins), opened)
     }
 
-    /// Opens the world of a runtime and of shells. If `begins` is given, it is a world of the stricter rule.
+    /// Opens the world of a runtime, of shells and of files. If `begins` is given, it is a world of the stricter rule.
     fn open_with(
         rt: R,
         shells: S,
+        disk: D,
         record: &str,
         begins: Option<Begins>,
-    ) -> Result<RealWorld<R, S>, OpenFault>
+    ) -> Result<RealWorld<R, S, D>, OpenFault>
     where
         R: Clone + Drop,
         S: Drop,
+        D: Drop,
     {
         let opened = open_for_building(&rt, record, begins.is_some());
-        RealWorld::with_opened(rt, shells, record, begins, opened)
+        RealWorld::with_opened(rt, shells, disk, record, begins, opened)
     }
 
     /// Returns the world with a record that was opened. If it couldn't be opened, reports the reason on standard error.
     fn with_opened(
         rt: R,
         shells: S,
+        disk: D,
         record: &str,
         begins: Option<Begins>,
         opened: Result<Opened<R::File>, DeviceFault>,
-    ) -> Result<RealWorld<R, S>, OpenFault>
+    ) -> Result<RealWorld<R, S, D>, OpenFault>
     where
         R: Drop,
         S: Drop,
+        D: Drop,
     {
         let alloc = rt.alloc();
         let manifest = ManifestPaths::new(alloc)?;
@@ -169,6 +188,7 @@ where
                 Ok(RealWorld {
                     rt,
                     shells,
+                    disk,
                     screen: Mutex::new(()),
                     parker: Parker::new(),
                     path,
@@ -345,7 +365,7 @@ where
     opened_with(rt, record, lock, stamp, is_long)
 }
 
-impl<R: Files + Wait + Eprint + AllocGlobal, S> RealWorld<R, S>
+impl<R: Files + Wait + Eprint + AllocGlobal, S, D> RealWorld<R, S, D>
 where
     R::File: Read + Write + Seek + OpenFile + SharedFile + Drop,
 {
@@ -401,7 +421,7 @@ where
     }
 }
 
-impl<R: Files, S> RealWorld<R, S>
+impl<R: Files, S, D> RealWorld<R, S, D>
 where
     R::File: SharedFile,
 {
@@ -412,7 +432,7 @@ where
     }
 }
 
-impl<R: Files, S> RealWorld<R, S> {
+impl<R: Files, S, D> RealWorld<R, S, D> {
     /// Returns the lock of standard output. It is held while a command's output is written, and while a console command
     /// runs. Other writers to standard output must take it too.
     pub fn screen(&self) -> &Mutex<()> {
@@ -426,24 +446,20 @@ impl<R: Files, S> RealWorld<R, S> {
     }
 }
 
-impl<R: Files + Print + Eprint + Wait + AllocGlobal, S: Shells> RealWorld<R, S>
+impl<R: Files + Print + Eprint + Wait + AllocGlobal, S: Shells, D: Disk> RealWorld<R, S, D>
 where
     R::File: Read + Write + Seek + OpenFile + SharedFile + Drop,
 {
     /// Runs the command of an edge that makes these files. The first of them names the edge in the record.
-    pub(crate) fn start(
-        &self,
-        command: &[u8],
-        console: bool,
-        outputs: &RowList<u8>,
-    ) -> Result<Reply, AllocError>
-        ensures suits { IfOk result (λ r. IsAnswer (Run command.now outputs.now) r) }
+    pub(crate) fn start(&self, permit: Permit, outputs: &RowList<u8>) -> Result<Reply, AllocError>
+        ensures suits { IfOk result (λ r. IsAnswer (Run permit.command outputs.now) r) }
         ensures no_output { outputs.now ≡ [] → result ≡ Ok reply.NotStarted }
         ensures no_path { ¬ (AreTexts outputs.now) → result ≡ Ok reply.NotStarted }
-        ensures no_text { ¬ (IsUtf8 command.now) → IfOk result (λ r. r ≡ reply.NotStarted) }
-        ensures ran { IfOk result (λ r. IsByShell S.ended command.now r) }
+        ensures no_text { ¬ (IsUtf8 permit.command) → IfOk result (λ r. r ≡ reply.NotStarted) }
+        ensures ran { IfOk result (λ r. IsByShell S.ended permit.command r) }
     {
         if outputs.len() == 0 || !make_folders(&self.rt, outputs) {
+            permit.spend();
             return Ok(Reply::NotStarted);
         }
         self.parker.unpark();
@@ -452,13 +468,13 @@ where
                 &self.rt,
                 &self.screen,
                 &self.shells,
-                command,
-                console,
+                permit,
                 outputs,
                 &self.lock,
                 begun,
             ),
             Err(fault) => {
+                permit.spend();
                 say(
                     &self.rt,
                     "can't start the command of",
@@ -556,33 +572,21 @@ where
         }
     }
 
-    /// Appends the entry of an edge that ran to the record. Its basis is at most the begin of its command, if that is
-    /// given.
-    fn append<'a>(
-        &self,
-        output: &'a [u8],
-        command: &'a [u8],
-        basis: u64,
-        begin: Option<u64>,
-        paths: &'a PathList,
-    ) -> Result<Kept<'a>, DeviceFault>
-        ensures { IfOk result (λ k. (kept : ℕ) × (kept ≤ basis) × (k ≡ edge_entry output.now command.now kept paths.now)) }
+    /// Appends the entry of an order to the record. Its basis is at most the begin of its command, if that is given.
+    fn append<'a>(&self, order: &'a KeepOrder, begin: Option<u64>) -> Result<Kept<'a>, DeviceFault>
+        ensures { IfOk result (λ k. (kept : ℕ) × (kept ≤ order.now.basis) × (k ≡ edge_entry order.now.output order.now.command kept order.now.paths)) }
     {
         let mut record = self.record.lock(&self.rt);
         let record = self.read_in(&mut record)?;
-        record.keep_edge(
-            self.rt.alloc(),
-            output,
-            command,
-            basis_from(begin, basis),
-            paths,
-        )
+        record.keep_edge(self.rt.alloc(), order, basis_from(begin, order.basis()))
     }
 
     /// Marks the outputs of an edge whose entry was just kept as made in ninja's log, if its command ran in this build.
-    fn end_for_ninja(&self, output: &[u8], command: &[u8], begin: Option<u64>) {
+    fn end_for_ninja(&self, order: &KeepOrder, begin: Option<u64>) {
         if let (Some(begins), Some(begin)) = (&self.begins, begin) {
-            begins.ninja_log().end(&self.rt, output, command, begin);
+            begins
+                .ninja_log()
+                .end(&self.rt, order.output(), order.command(), begin);
         }
     }
 
@@ -597,15 +601,17 @@ where
 
     /// Warns if an edge whose entry was just kept read a file of the future. It is asked only if something that the
     /// edge read is later than the begin of its command.
-    fn warn_of_future(&self, edge: &[u8], basis: u64, begin: Option<u64>, paths: &PathList) {
+    fn warn_of_future(&self, order: &KeepOrder, begin: Option<u64>) {
         let (Some(begins), Some(begin)) = (&self.begins, begin) else {
             return;
         };
-        if !is_later(basis, begin) {
+        if !is_later(order.basis(), begin) {
             return;
         }
         match self.stamp_now() {
-            Some(now) if is_later(basis, now) => begins.warn(&self.rt, edge, paths, now),
+            Some(now) if is_later(order.basis(), now) => {
+                begins.warn(&self.rt, order.output(), order.paths(), now)
+            }
             _ => {}
         }
     }
@@ -816,14 +822,14 @@ fn recall_reply(alloc: Global, output: &[u8], found: Option<Entry>) -> Result<Re
     }
 }
 
-impl<R: Files + Print + Eprint + Wait + AllocGlobal, S: Shells> RealWorld<R, S>
+impl<R: Files + Print + Eprint + Wait + AllocGlobal, S: Shells, D: Disk> RealWorld<R, S, D>
 where
     R::File: Read + Write + Seek + OpenFile + SharedFile + Drop,
 {
     /// Returns the reply to a recall of an output: its last entry, if it isn't spoilt.
     #[tactic(auto, using(crate::proofs::AnswerLemmas::may_recall))]
     fn recall_last(&self, output: &[u8]) -> Result<Reply, DeviceFault>
-        ensures { IfOk result (λ r. MayAnswer S.ended (Recall output.now) r) }
+        ensures { IfOk result (λ r. MayAnswer D.looked D.held S.ended (Recall output.now) r) }
     {
         let found = self.last(output)?;
         recall_reply(self.rt.alloc(), output, found)
@@ -831,24 +837,26 @@ where
 }
 
 /// Returns the reply that the record has the entry of an edge.
-fn keep_reply(kept: Kept<'_>, output: &[u8], command: &[u8], basis: u64, paths: &PathList) -> Reply
-    requires { (least : ℕ) × (least ≤ basis) × (kept ≡ edge_entry output.now command.now least paths.now) }
-    ensures suits { IsAnswer (Keep output.now command.now basis paths.now) result }
+fn keep_reply(kept: Kept<'_>, order: &KeepOrder) -> Reply
+    requires { (least : ℕ) × (least ≤ order.now.basis) × (kept ≡ edge_entry order.now.output order.now.command least order.now.paths) }
+    ensures suits { IsAnswer (Keep order.now.output order.now.command order.now.basis order.now.paths) result }
     ensures kept { result ≡ reply.Kept }
 {
     Reply::Kept
 }
 
 /// Replies by `MayAnswer`. The kind of a reply suits its question, and a path or command that isn't UTF-8 is neither
-/// looked up nor started. The reply to a command is that it wasn't started, or the exit status of a shell that ran
+/// looked up nor started. A stamp is of the time that a look at just this path found, and the bytes of a depfile were
+/// read from just this path. The reply to a command is that it wasn't started, or the exit status of a shell that ran
 /// exactly this command. No contract says what a file contains or what a command does.
-impl<R: Files + Print + Eprint + Wait + AllocGlobal, S: Shells> World for RealWorld<R, S>
+impl<R: Files + Print + Eprint + Wait + AllocGlobal, S: Shells, D: Disk> World
+    for RealWorld<R, S, D>
 where
     R::File: Read + Write + Seek + OpenFile + SharedFile + Drop,
 {
     ghost use Rattle.plan_world.specs.Answers.{MayAnswer};
 
-    ghost allows = { λ _ question reply. MayAnswer S.ended question reply };
+    ghost allows = { λ _ question reply. MayAnswer D.looked D.held S.ended question reply };
 
     fn keeps_journal() -> bool {
         false
@@ -859,13 +867,13 @@ where
     }
 
     fn stat(&self, _number: u64, path: &[u8]) -> Result<Reply, AllocError> {
-        let reply = stat(&self.rt, path);
+        let reply = stat(&self.disk, path);
         self.note_fault(&reply);
         reply
     }
 
     fn stat_ahead(&self, path: &[u8]) -> Option<u64> {
-        match stat(&self.rt, path) {
+        match stat(&self.disk, path) {
             Ok(Reply::Stamp(stamp)) => Some(stamp),
             _ => None,
         }
@@ -973,41 +981,31 @@ where
     fn run(
         &self,
         _number: u64,
-        command: &[u8],
         outputs: &RowList<u8>,
         permit: Permit,
     ) -> Result<Reply, AllocError> {
-        let console = permit.console();
-        permit.spend();
-        self.start(command, console, outputs)
+        self.start(permit, outputs)
     }
 
     /// By the stricter rule, a depfile that is missing or names nothing has a start entry, once an edge has read it:
     /// the entry of that edge has no paths, and doesn't say so by itself. No edge asks under the number 0.
     fn read_depfile(&self, number: u64, path: &[u8]) -> Result<Reply, AllocError> {
-        let reply = read_depfile(&self.rt, path);
+        let reply = read_depfile(&self.disk, self.rt.alloc(), path);
         self.note_read(number, path, &reply);
         reply
     }
 
-    fn keep(
-        &self,
-        _number: u64,
-        output: &[u8],
-        command: &[u8],
-        basis: u64,
-        paths: &PathList,
-    ) -> Result<Reply, AllocError> {
-        let begin = self.begin_of(output);
-        match self.append(output, command, basis, begin, paths) {
+    fn keep(&self, _number: u64, order: &KeepOrder) -> Result<Reply, AllocError> {
+        let begin = self.begin_of(order.output());
+        match self.append(order, begin) {
             Ok(kept) => {
-                self.end_for_ninja(output, command, begin);
-                self.warn_of_future(output, basis, begin, paths);
-                Ok(keep_reply(kept, output, command, basis, paths))
+                self.end_for_ninja(order, begin);
+                self.warn_of_future(order, begin);
+                Ok(keep_reply(kept, order))
             }
             Err(fault) => {
                 self.depfiles.keep_all();
-                say(&self.rt, "can't keep the entry of", output, fault);
+                say(&self.rt, "can't keep the entry of", order.output(), fault);
                 fault.or_reply(Reply::Fault)
             }
         }

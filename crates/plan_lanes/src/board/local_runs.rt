@@ -10,11 +10,12 @@ ghost use Rattle.plan_machine.specs.Step.{NotEnabled, step};
 ghost use Rattle.plan_lanes.specs.Boards.{IsNumbered, IsOpen, MayJournal};
 ghost use Rattle.plan_lanes.specs.declared.board.Advance.TheVariants.{Job};
 ghost use Rattle.plan_lanes.specs.Observations.{Observes};
-ghost use Rattle.plan_lanes.specs.Proceeds.{AnswersRow, AwaitsReply, HearsAndGoesOn, HearsFront, HearsRow, Permits, Proceeds};
+ghost use Rattle.plan_lanes.specs.Permits.{Permits};
+ghost use Rattle.plan_lanes.specs.Proceeds.{AnswersRow, AwaitsReply, HearsAndGoesOn, HearsFront, HearsRow, Proceeds};
 ghost use Rattle.plan_lanes.specs.Questions.{shown};
 ghost use Rattle.plan_lanes.specs.LocalRuns.{Follows, GoesOn, Rushes, SweepsRow};
 
-use super::{Advance, Board, Permit, permit_for, put};
+use super::{Advance, Board, Permit, owned_request, permit_for, put};
 use crate::batch::{OwnedRequest, Question};
 use crate::printed_run::keep;
 use crate::stamp_row::StampRow;
@@ -204,7 +205,7 @@ impl<'v, W: World> Board<'v, W> {
         let Some(request) = self.state.request(self.image, edge) else {
             unreachable!()
         };
-        OwnedRequest::with_room(self.alloc, room, &request)
+        owned_request(self.alloc, room, &request)
     }
 
     /// Returns the question whose reply an edge awaits. A copy of a path is in `room`.
@@ -287,8 +288,8 @@ impl<'v, W: World> Board<'v, W> {
         ensures observes { IfOk result (λ x. Observes W.observes self.now (Job edge x.0 x.1)) }
     {
         let question = self.open_question(edge, Vec::new(self.alloc))?;
-        let observed = self.observed_for(edge, &question.request)?;
-        let permit = permit_for(self.image, edge, &question.request, observed);
+        let parts = self.parts_for(edge, &question.request)?;
+        let permit = permit_for(self.image, edge, parts);
         Ok((question, permit))
     }
 }

@@ -30,9 +30,8 @@ fn cleaned_of_target_are(alloc: Global, target: u32, expected: &[&[u8]]) -> Opti
     let manifest = manifest_of(alloc, &tree)?;
     let graph = graph_of(alloc, &manifest)?;
     let needed = needed_paths(alloc, &graph, &[target]).ok()?;
-    let edges = edges_of_paths(alloc, &manifest, &graph, &needed).ok()?;
-    let files = files_of_edges(alloc, &manifest, &graph, Some(&needed), &edges).ok()?;
-    Some(are_rows(&files, expected))
+    let files = files_of_paths(alloc, &manifest, &graph, &needed).ok()?;
+    Some(are_rows(files.paths(), expected))
 }
 
 /// Checks that `clean` of a target removes the outputs that the target needs and the depfiles of their edges.
@@ -69,7 +68,7 @@ fn dead_are(alloc: Global, expected: &[&[u8]]) -> Option<bool> {
     outputs.push(b"old.o").ok()?;
     outputs.push(b"a.o").ok()?;
     let dead = dead_outputs(alloc, &graph, &outputs).ok()?;
-    Some(are_rows(&dead, expected))
+    Some(are_rows(dead.paths(), expected))
 }
 
 /// Checks that an output is dead if the manifest doesn't name it.

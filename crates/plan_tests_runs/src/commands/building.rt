@@ -1,6 +1,6 @@
 //! Builds of manifests in memory. In most worlds here, the edge that builds the manifest is out of date `rounds` times.
 
-use crate::commands::fakes::{Failing, Generator, Listening, Reads, Touched, Versions};
+use crate::commands::fakes::{Failing, Generator, Listening, Reads, Settled, Touched, Versions};
 use plan_commands::{Done, Listed, Order, Printer, do_build, do_dry_build};
 use plan_lanes::World;
 use plan_machine::Options;
@@ -30,6 +30,13 @@ const REMADE: &[u8] =
 /// A manifest that an edge builds, and whose default target `done` is up to date.
 const IDLE: &[u8] =
     b"rule make\n  command = make $out\n  generator = 1\nbuild build.ninja: make in\nbuild done: make in\ndefault done\n";
+
+/// A manifest with another command than `cc in -o out`.
+const OTHER_COMMAND: &[u8] = b"rule cc\n  command = cc -g $in -o $out\nbuild out: cc in\n";
+
+/// A manifest that an edge makes by another command, and that isn't needed by its default.
+const OTHER_MAKER: &[u8] =
+    b"rule cc\n  command = cc $in -o $out\nbuild out: cc in\nrule make\n  command = make $out\nbuild build.ninja: make in\ndefault out\n";
 
 /// A manifest with two commands that have `restat`, and one that doesn't.
 const WITH_RESTAT: &[u8] =
@@ -232,6 +239,43 @@ fn nothing_to_do_is_up_to_date(rt: HostRuntime) -> Result<(), Fail> {
     assert!(rt; text.is_empty());
     assert!(rt; matches!(&done, Ok(Done::UpToDate)));
     assert!(rt; world.commands() == 0);
+    Ok(())
+}
+
+/// Checks that a build with nothing to do, which names no targets, ends without a run.
+#[test]
+fn nothing_to_do_needs_no_run(rt: HostRuntime) -> Result<(), Fail> {
+    let world = Settled::new(rt.alloc());
+    let (text, done) = built(&rt, &[PLAIN], &[], &world)?;
+    assert!(rt; text.is_empty());
+    assert!(rt; matches!(&done, Ok(Done::UpToDate)));
+    assert_eq!(rt; world.questions(), 0);
+    Ok(())
+}
+
+/// Checks that edges are asked in a run if a target is named.
+#[test]
+fn named_target_is_run(rt: HostRuntime) -> Result<(), Fail> {
+    let world = Settled::new(rt.alloc());
+    let (text, done) = built(&rt, &[PLAIN], &[b"out"], &world)?;
+    assert!(rt; text.is_empty());
+    assert!(rt; matches!(&done, Ok(Done::UpToDate)));
+    assert!(rt; world.questions() > 0);
+    assert_eq!(rt; world.commands(), 0);
+    Ok(())
+}
+
+/// Checks that a default, and the edge that makes the manifest, run if the record has another command for them.
+#[test]
+fn other_command_is_run(rt: HostRuntime) -> Result<(), Fail> {
+    let world = Settled::new(rt.alloc());
+    let (_text, done) = built(&rt, &[OTHER_COMMAND], &[], &world)?;
+    assert!(rt; matches!(&done, Ok(Done::Built)));
+    assert_eq!(rt; world.commands(), 1);
+    let world = Settled::new(rt.alloc());
+    let (_text, done) = built(&rt, &[OTHER_MAKER], &[], &world)?;
+    assert!(rt; matches!(&done, Ok(Done::NeverSettles)));
+    assert_eq!(rt; world.commands(), 100);
     Ok(())
 }
 

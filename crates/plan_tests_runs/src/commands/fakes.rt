@@ -1,7 +1,7 @@
 //! Sources, sinks and worlds written for tests.
 
 use plan_depfile::Parsed;
-use plan_lanes::{Permit, World};
+use plan_lanes::{KeepOrder, Permit, World};
 use plan_machine::{Depfile, Recorded, Reply};
 use plan_scope::{Source, SourceFault};
 use plan_text::{GhostCounter, RowList, Sink, SinkFault};
@@ -158,7 +158,6 @@ impl World for Fresh {
     fn run(
         &self,
         _number: u64,
-        _command: &[u8],
         _outputs: &RowList<u8>,
         permit: Permit,
     ) -> Result<Reply, AllocError> {
@@ -170,14 +169,7 @@ impl World for Fresh {
         Ok(Reply::Nothing)
     }
 
-    fn keep(
-        &self,
-        _number: u64,
-        _output: &[u8],
-        _command: &[u8],
-        _basis: u64,
-        _paths: &PathList,
-    ) -> Result<Reply, AllocError> {
+    fn keep(&self, _number: u64, _order: &KeepOrder) -> Result<Reply, AllocError> {
         Ok(Reply::Kept)
     }
 }
@@ -242,7 +234,6 @@ impl World for Generator {
     fn run(
         &self,
         _number: u64,
-        _command: &[u8],
         _outputs: &RowList<u8>,
         permit: Permit,
     ) -> Result<Reply, AllocError> {
@@ -255,14 +246,7 @@ impl World for Generator {
         Ok(Reply::Nothing)
     }
 
-    fn keep(
-        &self,
-        _number: u64,
-        _output: &[u8],
-        _command: &[u8],
-        _basis: u64,
-        _paths: &PathList,
-    ) -> Result<Reply, AllocError> {
+    fn keep(&self, _number: u64, _order: &KeepOrder) -> Result<Reply, AllocError> {
         Ok(Reply::Kept)
     }
 }
@@ -301,7 +285,6 @@ impl World for Touched {
     fn run(
         &self,
         _number: u64,
-        _command: &[u8],
         _outputs: &RowList<u8>,
         permit: Permit,
     ) -> Result<Reply, AllocError> {
@@ -313,14 +296,7 @@ impl World for Touched {
         Ok(Reply::Nothing)
     }
 
-    fn keep(
-        &self,
-        _number: u64,
-        _output: &[u8],
-        _command: &[u8],
-        _basis: u64,
-        _paths: &PathList,
-    ) -> Result<Reply, AllocError> {
+    fn keep(&self, _number: u64, _order: &KeepOrder) -> Result<Reply, AllocError> {
         Ok(Reply::Kept)
     }
 }
@@ -372,7 +348,6 @@ impl World for Reads {
     fn run(
         &self,
         _number: u64,
-        _command: &[u8],
         _outputs: &RowList<u8>,
         permit: Permit,
     ) -> Result<Reply, AllocError> {
@@ -388,14 +363,92 @@ impl World for Reads {
         }
     }
 
-    fn keep(
+    fn keep(&self, _number: u64, _order: &KeepOrder) -> Result<Reply, AllocError> {
+        Ok(Reply::Kept)
+    }
+}
+
+/// A world in which each file has the stamp 7, and each edge has an entry with the command `cc in -o out` and the basis
+/// 7. It counts the questions that edges ask in a run, which have numbers above 0.
+#[derive(Drop)]
+pub struct Settled {
+    alloc: Global,
+    questions: AtomicU64,
+    /// How many commands ran.
+    commands: AtomicU64,
+}
+
+impl Settled {
+    pub fn new(alloc: Global) -> Settled {
+        Settled {
+            alloc,
+            questions: AtomicU64::new(0),
+            commands: AtomicU64::new(0),
+        }
+    }
+
+    /// Returns how many questions edges asked in a run.
+    pub fn questions(&self) -> u64 {
+        self.questions.load(Ordering::SeqCst)
+    }
+
+    /// Returns how many commands ran.
+    pub fn commands(&self) -> u64 {
+        self.commands.load(Ordering::SeqCst)
+    }
+
+    fn count(&self, number: u64) {
+        if number > 0 {
+            self.questions.fetch_add(1, Ordering::SeqCst);
+        }
+    }
+}
+
+impl World for Settled {
+    ghost use Rattle.std.specs.Prelude.{⊤};
+
+    ghost allows = { λ number request reply. ⊤ };
+
+    fn keeps_journal() -> bool {
+        false
+    }
+
+    fn observes() -> bool {
+        false
+    }
+
+    fn stat(&self, number: u64, _path: &[u8]) -> Result<Reply, AllocError> {
+        self.count(number);
+        Ok(Reply::Stamp(7))
+    }
+
+    fn stat_ahead(&self, _path: &[u8]) -> Option<u64> {
+        Some(7)
+    }
+
+    fn recall(&self, number: u64, _output: &[u8]) -> Result<Reply, AllocError> {
+        self.count(number);
+        let command = Words::of(self.alloc, b"cc in -o out".as_slice())?;
+        let paths = PathList::new(self.alloc, RowList::new(self.alloc))?;
+        Ok(Reply::Entry(Recorded::new(self.alloc, command, 7, paths)?))
+    }
+
+    fn run(
         &self,
         _number: u64,
-        _output: &[u8],
-        _command: &[u8],
-        _basis: u64,
-        _paths: &PathList,
+        _outputs: &RowList<u8>,
+        permit: Permit,
     ) -> Result<Reply, AllocError> {
+        permit.spend();
+        self.commands.fetch_add(1, Ordering::SeqCst);
+        Ok(Reply::Exit(0))
+    }
+
+    fn read_depfile(&self, _number: u64, _path: &[u8]) -> Result<Reply, AllocError> {
+        Ok(Reply::Nothing)
+    }
+
+    fn keep(&self, _number: u64, _order: &KeepOrder) -> Result<Reply, AllocError> {
         Ok(Reply::Kept)
     }
 }
@@ -467,28 +520,15 @@ impl World for Listening<'_> {
         }
     }
 
-    fn run(
-        &self,
-        number: u64,
-        command: &[u8],
-        outputs: &RowList<u8>,
-        permit: Permit,
-    ) -> Result<Reply, AllocError> {
-        self.world.run(number, command, outputs, permit)
+    fn run(&self, number: u64, outputs: &RowList<u8>, permit: Permit) -> Result<Reply, AllocError> {
+        self.world.run(number, outputs, permit)
     }
 
     fn read_depfile(&self, number: u64, path: &[u8]) -> Result<Reply, AllocError> {
         self.world.read_depfile(number, path)
     }
 
-    fn keep(
-        &self,
-        number: u64,
-        output: &[u8],
-        command: &[u8],
-        basis: u64,
-        paths: &PathList,
-    ) -> Result<Reply, AllocError> {
-        self.world.keep(number, output, command, basis, paths)
+    fn keep(&self, number: u64, order: &KeepOrder) -> Result<Reply, AllocError> {
+        self.world.keep(number, order)
     }
 }

@@ -4,7 +4,7 @@ ghost use Rattle.std.specs.Prelude.{ℕ};
 ghost use Rattle.plan_machine.specs.declared.event.reply.Reply.{Reply as Answer};
 ghost use Rattle.plan_verify.specs.Turn.{Request};
 
-use crate::lanes::{Counted, edges_of};
+use crate::lanes::{Counted, edges_of, keeping_edge};
 use plan_lanes::*;
 use plan_machine::{Mark, Options, Refused, Reply};
 use plan_text::Items;
@@ -208,4 +208,79 @@ fn permit_has_observations(rt: HostRuntime) {
     let observed = seen_in::<Observing<'_, Counted>>(rt.alloc(), &image);
     let unobserved = seen_in::<Counted>(rt.alloc(), &image);
     assert!(rt; (observed, unobserved) == (Ok(Some((1, 0))), Ok(None)));
+}
+
+/// Advances a board until its edge asks, and returns the question and the permit.
+fn asked_first<W: World>(
+    board: &mut Board<'_, W>,
+) -> Result<Option<(Question, Option<Permit>)>, Refused> {
+    for _ in 0..8 {
+        match board.advance()? {
+            Advance::Job(_edge, question, permit) => return Ok(Some((question, permit))),
+            Advance::Moved => {}
+            Advance::Wait | Advance::Ended => return Ok(None),
+        }
+    }
+    Ok(None)
+}
+
+/// Checks whether the permit of an edge that only runs its command has this command.
+fn permits(alloc: Global, command: &[u8]) -> Result<bool, Refused> {
+    let image = edges_of(alloc, 1, 0, 0)?;
+    let mut board = board_of(alloc, &image)?;
+    let Some((question, permit)) = asked_first(&mut board)? else {
+        return Ok(false);
+    };
+    drop(question);
+    let Some(permit) = permit else {
+        return Ok(false);
+    };
+    let is_same = permit.command() == command;
+    let spent = permit.into_command();
+    Ok(is_same && spent.as_slice() == command)
+}
+
+/// Checks that a permit has the command of its edge.
+#[test]
+fn permit_has_its_command(rt: HostRuntime) {
+    assert!(rt; permits(rt.alloc(), b"x") == Ok(true));
+    assert!(rt; permits(rt.alloc(), b"y") == Ok(false));
+}
+
+/// Returns the order to keep an entry, if a question asks for that.
+fn order_in(question: Question) -> Option<KeepOrder> {
+    let Question { request, .. } = question;
+    match request {
+        OwnedRequest::Keep(order) => Some(order),
+        _ => None,
+    }
+}
+
+/// Returns the order of an edge that keeps an entry.
+pub(crate) fn order_to_keep<W: World>(alloc: Global) -> Result<Option<KeepOrder>, Refused> {
+    let image = keeping_edge(alloc)?;
+    let Some(options) = Options::new(1, 0) else {
+        return Ok(None);
+    };
+    let mut board: Board<'_, W> = Board::open(alloc, &image, options, &[])?;
+    let Some((question, permit)) = asked_first(&mut board)? else {
+        return Ok(None);
+    };
+    if let Some(permit) = permit {
+        permit.spend();
+    }
+    Ok(order_in(question))
+}
+
+/// Checks that the order of an edge that keeps an entry has the output, the command, the basis and the paths of this
+/// entry.
+#[test]
+fn order_to_keep_an_entry(rt: HostRuntime) {
+    let Ok(Some(order)) = order_to_keep::<Counted>(rt.alloc()) else {
+        panic!(&rt; "no order");
+    };
+    assert_eq!(rt; order.output(), [1u8, 1].as_slice());
+    assert_eq!(rt; order.command(), b"x".as_slice());
+    assert_eq!(rt; order.basis(), 0);
+    assert_eq!(rt; order.paths().len(), 0);
 }

@@ -107,7 +107,6 @@ impl World for Failing {
     fn run(
         &self,
         _number: u64,
-        _command: &[u8],
         _outputs: &RowList<u8>,
         permit: Permit,
     ) -> Result<Reply, AllocError> {
@@ -125,14 +124,7 @@ impl World for Failing {
         Ok(Reply::Nothing)
     }
 
-    fn keep(
-        &self,
-        _number: u64,
-        _output: &[u8],
-        _command: &[u8],
-        _basis: u64,
-        _paths: &PathList,
-    ) -> Result<Reply, AllocError> {
+    fn keep(&self, _number: u64, _order: &KeepOrder) -> Result<Reply, AllocError> {
         if self.fails() {
             return Ok(Reply::Fault);
         }

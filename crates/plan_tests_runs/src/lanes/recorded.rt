@@ -86,7 +86,6 @@ impl World for Remembers {
     fn run(
         &self,
         _number: u64,
-        _command: &[u8],
         _outputs: &RowList<u8>,
         permit: Permit,
     ) -> Result<Reply, AllocError> {
@@ -98,14 +97,7 @@ impl World for Remembers {
         Ok(Reply::Nothing)
     }
 
-    fn keep(
-        &self,
-        _number: u64,
-        _output: &[u8],
-        _command: &[u8],
-        _basis: u64,
-        _paths: &PathList,
-    ) -> Result<Reply, AllocError> {
+    fn keep(&self, _number: u64, _order: &KeepOrder) -> Result<Reply, AllocError> {
         Ok(Reply::Kept)
     }
 }

@@ -5,7 +5,7 @@ use plan_image::{Edge, EdgeCode, Edges, Image, Instr, Parts, Sort};
 use plan_lanes::*;
 use plan_machine::{Depfile, Event, Options, Outcome, Refused, Reply};
 use plan_text::{Items, RowList};
-use plan_verify::{Cause, PathList, Verified, verify};
+use plan_verify::{Cause, Verified, verify};
 use std::alloc::{AllocError, Global};
 use std::sync::Wait;
 use std::sync::atomic::{AtomicU64, Ordering};
@@ -222,7 +222,6 @@ impl World for Files {
     fn run(
         &self,
         _number: u64,
-        _command: &[u8],
         _outputs: &RowList<u8>,
         permit: Permit,
     ) -> Result<Reply, AllocError> {
@@ -234,14 +233,7 @@ impl World for Files {
         depfile(self.alloc, self.paths)
     }
 
-    fn keep(
-        &self,
-        _number: u64,
-        _output: &[u8],
-        _command: &[u8],
-        _basis: u64,
-        _paths: &PathList,
-    ) -> Result<Reply, AllocError> {
+    fn keep(&self, _number: u64, _order: &KeepOrder) -> Result<Reply, AllocError> {
         Ok(Reply::Kept)
     }
 }

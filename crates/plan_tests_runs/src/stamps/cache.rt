@@ -1,10 +1,10 @@
 //! Tests of how often a cache asks its inner world.
 
+use crate::lanes::boards::order_to_keep;
 use crate::stamps::worlds::{CountingWorld, STAMP};
 use plan_lanes::World;
 use plan_machine::Reply;
 use plan_stamps::StampCache;
-use plan_verify::PathList;
 use std::alloc::{AllocError, Global};
 use std::rt::Clock;
 use std::sync::Wait;
@@ -46,7 +46,10 @@ pub(crate) fn asked_for<R: Wait, C: Clock + AllocGlobal>(
 
 /// Keeps an entry, which counts like a command, and returns whether it is kept.
 pub(crate) fn keep_entry<W: World>(alloc: Global, world: &W) -> Result<bool, AllocError> {
-    match world.keep(0, b"out", b"true", 1, &PathList::empty(alloc)?)? {
+    let Ok(Some(order)) = order_to_keep::<W>(alloc) else {
+        return Ok(false);
+    };
+    match world.keep(0, &order)? {
         Reply::Kept => Ok(true),
         _ => Ok(false),
     }

@@ -1,6 +1,6 @@
 //! A world that counts the questions for stamps.
 
-use plan_lanes::{Permit, World};
+use plan_lanes::{KeepOrder, Permit, World};
 use plan_machine::{Recorded, Reply};
 use plan_text::RowList;
 use plan_verify::{PathList, Words};
@@ -100,7 +100,6 @@ impl<C: Clock + AllocGlobal> World for CountingWorld<C> {
     fn run(
         &self,
         _number: u64,
-        _command: &[u8],
         outputs: &RowList<u8>,
         permit: Permit,
     ) -> Result<Reply, AllocError> {
@@ -121,14 +120,7 @@ impl<C: Clock + AllocGlobal> World for CountingWorld<C> {
         Ok(Reply::Nothing)
     }
 
-    fn keep(
-        &self,
-        _number: u64,
-        _output: &[u8],
-        _command: &[u8],
-        _basis: u64,
-        _paths: &PathList,
-    ) -> Result<Reply, AllocError> {
+    fn keep(&self, _number: u64, _order: &KeepOrder) -> Result<Reply, AllocError> {
         Ok(Reply::Kept)
     }
 }

@@ -8,13 +8,15 @@ const BEGUN_SECOND: [u8; 44] =
     *b"\0\0\0\x28\0\x01b\0\0\0\x01\0\0\0\0\0\0\0\0\0\0\0\0\x02\0\x0f/dev/null/begun\0\x01a";
 
 /// Opens a world of the stricter rule with its record in a folder.
-pub(crate) fn stricter_world_in(
-    rt: &HostRuntime,
-    folder: &str,
-) -> Result<RealWorld<HostRuntime, SystemShells<HostRuntime>>, Fail> {
+pub(crate) fn stricter_world_in(rt: &HostRuntime, folder: &str) -> Result<SystemWorld, Fail> {
     let record = format!(in rt.alloc(); "{folder}/record")?;
     let shells = SystemShells::new(rt.clone()?);
-    Ok(RealWorld::open_stricter(rt.clone()?, shells, record.as_str())?)
+    Ok(RealWorld::open_stricter(
+        rt.clone()?,
+        shells,
+        SystemDisk::new(rt.clone()?),
+        record.as_str(),
+    )?)
 }
 
 /// Checks that each output of an edge has a start entry while its command runs, that of the first one last.
@@ -57,10 +59,10 @@ fn first_output_begins(rt: HostRuntime) -> Result<(), Fail> {
 }
 
 /// Starts a command for these files and keeps an entry of this output.
-pub(crate) fn makes<R: Files + Print + Eprint + Wait + AllocGlobal, S: Shells>(
+pub(crate) fn makes<R: Files + Print + Eprint + Wait + AllocGlobal, S: Shells, D: Disk>(
     rt: &impl Abort,
     alloc: Global,
-    world: &RealWorld<R, S>,
+    world: &RealWorld<R, S, D>,
     files: &[&[u8]],
     output: &[u8],
 ) -> Result<(), Fail>
@@ -79,10 +81,10 @@ fn has_start_entry<W: World>(world: &W, output: &[u8]) -> Result<bool, Fail> {
 
 /// Makes `a` and `b` by the edge of `a`, and then `b` by an edge of its own. Checks that the entry of `a` ended then,
 /// and that neither entry ends when the edge of `b` runs again.
-fn other_entry_ends<R: Files + Print + Eprint + Wait + AllocGlobal, S: Shells>(
+fn other_entry_ends<R: Files + Print + Eprint + Wait + AllocGlobal, S: Shells, D: Disk>(
     rt: &impl Abort,
     alloc: Global,
-    world: &RealWorld<R, S>,
+    world: &RealWorld<R, S, D>,
 ) -> Result<(), Fail>
 where
     R::File: Read + Write + Seek + OpenFile + SharedFile + Drop,
@@ -110,10 +112,10 @@ fn entry_of_another_edge_ends(rt: HostRuntime) -> Result<(), Fail> {
 }
 
 /// Returns the basis of an entry that is kept with the greatest basis, after its command began or without that.
-fn kept_basis<R: Files + Print + Eprint + Wait + AllocGlobal, S: Shells>(
+fn kept_basis<R: Files + Print + Eprint + Wait + AllocGlobal, S: Shells, D: Disk>(
     rt: &impl Abort,
     alloc: Global,
-    world: &RealWorld<R, S>,
+    world: &RealWorld<R, S, D>,
     begins: bool,
 ) -> Result<u64, Fail>
 where
@@ -124,7 +126,8 @@ where
         start_is(rt, alloc, world, b"true", false, &outputs, "exit 0")?;
     }
     let none = PathList::empty(alloc)?;
-    let answer = said(alloc, world.keep(0, b"a", b"t", u64::MAX, &none)?)?;
+    let order = order_of(alloc, b"a", b"t", u64::MAX, &none)?;
+    let answer = said(alloc, world.keep(0, &order)?)?;
     assert_eq!(rt; answer.as_str(), "kept");
     basis_of(world, b"a")
 }
@@ -158,10 +161,10 @@ fn basis_is_exact(rt: HostRuntime) -> Result<(), Fail> {
 }
 
 /// Ends the entry of `a` for this build. Checks that it counts as begun until its command has begun again.
-fn is_forgotten<R: Files + Print + Eprint + Wait + AllocGlobal, S: Shells>(
+fn is_forgotten<R: Files + Print + Eprint + Wait + AllocGlobal, S: Shells, D: Disk>(
     rt: &impl Abort,
     alloc: Global,
-    world: &RealWorld<R, S>,
+    world: &RealWorld<R, S, D>,
 ) -> Result<(), Fail>
 where
     R::File: Read + Write + Seek + OpenFile + SharedFile + Drop,
@@ -220,7 +223,12 @@ fn strange_file(rt: HostRuntime) -> Result<(), Fail> {
         b"\0\0\0\x25\0\0",
     ] {
         fs::write(&rt, path.as_str(), bytes)?;
-        let world = RealWorld::open(rt.clone()?, SystemShells::new(rt.clone()?), path.as_str());
+        let world = RealWorld::open(
+            rt.clone()?,
+            SystemShells::new(rt.clone()?),
+            SystemDisk::new(rt.clone()?),
+            path.as_str(),
+        );
         match world {
             Ok(world) => {
                 drop(world);

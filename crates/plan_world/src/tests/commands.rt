@@ -1,18 +1,18 @@
 //! Commands that are started by the shell.
 
 use super::*;
-use crate::Printed;
 use crate::fault::DeviceFault;
 use crate::running_shells::open_files_in;
+use crate::{PermittedShell, Printed};
 use std::io::{self, ErrorKind};
-use std::process::{Command, ExitStatus};
+use std::process::ExitStatus;
 
 /// Checks the replies, in words, to commands with these outputs. Each case states whether its command is a console
 /// command.
-fn starts_are<R: Files + Print + Eprint + Wait + AllocGlobal, S: Shells>(
+fn starts_are<R: Files + Print + Eprint + Wait + AllocGlobal, S: Shells, D: Disk>(
     rt: &impl Abort,
     alloc: Global,
-    world: &RealWorld<R, S>,
+    world: &RealWorld<R, S, D>,
     outputs: &RowList<u8>,
     cases: &[(&[u8], bool, &str)],
 ) -> Result<(), Fail>
@@ -45,10 +45,10 @@ fn console_commands(rt: HostRuntime) -> Result<(), Fail> {
 }
 
 /// Checks that a command isn't started if a folder of an output can't be created, or if there is no output.
-fn needs_folders<R: Files + Print + Eprint + Wait + AllocGlobal, S: Shells>(
+fn needs_folders<R: Files + Print + Eprint + Wait + AllocGlobal, S: Shells, D: Disk>(
     rt: &impl Abort,
     alloc: Global,
-    world: &RealWorld<R, S>,
+    world: &RealWorld<R, S, D>,
     file: &[u8],
     below: &[u8],
 ) -> Result<(), Fail>
@@ -102,13 +102,13 @@ struct NoShells;
 impl Shells for NoShells {
     ghost ended = { λ _ _. ⊥ };
 
-    fn output(&self, _shell: Command, _edge: &[u8]) -> io::Result<Printed> {
+    fn output(&self, _shell: PermittedShell, _edge: &[u8]) -> io::Result<Printed> {
         Err(io::Error::from(ErrorKind::NotFound))
     }
 
     fn wait_for_label(&self, _edge: &[u8]) {}
 
-    fn status(&self, _shell: Command) -> io::Result<ExitStatus> {
+    fn status(&self, _shell: PermittedShell) -> io::Result<ExitStatus> {
         Err(io::Error::from(ErrorKind::NotFound))
     }
 }
@@ -123,7 +123,12 @@ fn no_shells(rt: HostRuntime) -> Result<(), Fail> {
         (b"true".as_slice(), false, "not started"),
         (b"true".as_slice(), true, "not started"),
     ];
-    let world = RealWorld::open(rt.clone()?, NoShells, record.as_str())?;
+    let world = RealWorld::open(
+        rt.clone()?,
+        NoShells,
+        SystemDisk::new(rt.clone()?),
+        record.as_str(),
+    )?;
     starts_are(&rt, rt.alloc(), &world, &outputs, cases.as_slice())?;
     drop(world);
     remove(&rt, folder);
@@ -134,10 +139,11 @@ fn no_shells(rt: HostRuntime) -> Result<(), Fail> {
 #[test]
 fn both_streams_in_order(rt: HostRuntime) -> Result<(), Fail> {
     let alloc = rt.alloc();
-    let mut shell = Command::new(alloc, "/bin/sh")?;
-    shell
-        .arg("-c")?
-        .arg("echo a; echo b >&2; echo c; echo d >&2; exit 7")?;
+    let command = b"echo a; echo b >&2; echo c; echo d >&2; exit 7";
+    let permit = permit_of(alloc, command.as_slice(), false)?;
+    let Ok(shell) = PermittedShell::of(alloc, permit, "", None) else {
+        return Err(Fail::from(AllocError));
+    };
     let shells = SystemShells::new(rt.clone()?);
     let Printed { status, text } = shells.output(shell, b"out")?;
     assert_eq!(rt; status.code(), Some(7));

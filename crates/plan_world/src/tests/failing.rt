@@ -111,7 +111,8 @@ fn failing_record(
 /// Keeps the entry of 24 bytes, and returns whether it was kept.
 fn keeps(alloc: Global, record: &mut RecordFile<Failing>) -> Result<bool, Fail> {
     let none = PathList::empty(alloc)?;
-    Ok(record.keep_edge(alloc, b"a", b"t", 7, &none).is_ok())
+    let order = order_of(alloc, b"a", b"t", 7, &none)?;
+    Ok(record.keep_edge(alloc, &order, order.basis()).is_ok())
 }
 
 /// Checks whether each of the next entries is kept.
@@ -173,8 +174,9 @@ fn recalls_after_keep(
     record: &mut RecordFile<Failing>,
 ) -> Result<(), Fail> {
     let none = PathList::empty(alloc)?;
+    let order = order_of(alloc, b"b", b"t", 7, &none)?;
     assert!(rt; record.last(alloc, b"a")?.is_none());
-    assert!(rt; record.keep_edge(alloc, b"b", b"t", 7, &none).is_ok());
+    assert!(rt; record.keep_edge(alloc, &order, order.basis()).is_ok());
     match record.last(alloc, b"a")? {
         Some(entry) => assert_eq!(rt; entry.command(), b"\0".as_slice()),
         None => panic!(rt; "no entry"),

@@ -14,10 +14,10 @@ fn set_of(alloc: Global, paths: &[&[u8]]) -> Result<PathFilter, AllocError> {
 }
 
 /// Begins the command of the edge of these files.
-fn begins<R: Files + Print + Eprint + Wait + AllocGlobal, S: Shells>(
+fn begins<R: Files + Print + Eprint + Wait + AllocGlobal, S: Shells, D: Disk>(
     rt: &impl Abort,
     alloc: Global,
-    world: &RealWorld<R, S>,
+    world: &RealWorld<R, S, D>,
     files: &[&[u8]],
 ) -> Result<(), Fail>
 where
@@ -50,10 +50,10 @@ fn begun_among_is<W: World>(
 
 /// Keeps an entry of `a` with the paths `x` and `y`, of which edges make `y`. Checks that `y` is kept by the start
 /// entries of its command, also by a second one.
-fn output_is_kept<R: Files + Print + Eprint + Wait + AllocGlobal, S: Shells>(
+fn output_is_kept<R: Files + Print + Eprint + Wait + AllocGlobal, S: Shells, D: Disk>(
     rt: &impl Abort,
     alloc: Global,
-    world: &RealWorld<R, S>,
+    world: &RealWorld<R, S, D>,
 ) -> Result<(), Fail>
 where
     R::File: Read + Write + Seek + OpenFile + SharedFile + Drop,
@@ -71,10 +71,10 @@ where
 
 /// Makes `b` by the edge of `a`, and then by another one. Checks that the start entry of `a` keeps `y` all the same,
 /// and also the one of an entry that was ended for this build.
-fn ended_is_kept<R: Files + Print + Eprint + Wait + AllocGlobal, S: Shells>(
+fn ended_is_kept<R: Files + Print + Eprint + Wait + AllocGlobal, S: Shells, D: Disk>(
     rt: &impl Abort,
     alloc: Global,
-    world: &RealWorld<R, S>,
+    world: &RealWorld<R, S, D>,
 ) -> Result<(), Fail>
 where
     R::File: Read + Write + Seek + OpenFile + SharedFile + Drop,

@@ -34,10 +34,10 @@ fn each_output_has_a_line(rt: HostRuntime) -> Result<(), Fail> {
 
 /// Runs a command that makes a file, and keeps the entry of the command `true` with the greatest basis. Returns the
 /// basis that was kept.
-fn made<R: Files + Print + Eprint + Wait + AllocGlobal, S: Shells>(
+fn made<R: Files + Print + Eprint + Wait + AllocGlobal, S: Shells, D: Disk>(
     rt: &impl Abort,
     alloc: Global,
-    world: &RealWorld<R, S>,
+    world: &RealWorld<R, S, D>,
     command: &str,
     file: &str,
 ) -> Result<u64, Fail>
@@ -55,10 +55,8 @@ where
         "exit 0",
     )?;
     let none = PathList::empty(alloc)?;
-    let answer = said(
-        alloc,
-        world.keep(0, file.as_bytes(), b"true", u64::MAX, &none)?,
-    )?;
+    let order = order_of(alloc, file.as_bytes(), b"true", u64::MAX, &none)?;
+    let answer = said(alloc, world.keep(0, &order)?)?;
     assert_eq!(rt; answer.as_str(), "kept");
     basis_of(world, file.as_bytes())
 }

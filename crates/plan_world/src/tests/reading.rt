@@ -7,20 +7,22 @@ use plan_text::PathFilter;
 use std::os::unix::fs::MetadataExt;
 
 /// Opens a world that only reads the record in a folder.
-fn reading_world_in(
-    rt: &HostRuntime,
-    folder: &str,
-) -> Result<RealWorld<HostRuntime, SystemShells<HostRuntime>>, Fail> {
+fn reading_world_in(rt: &HostRuntime, folder: &str) -> Result<SystemWorld, Fail> {
     let record = format!(in rt.alloc(); "{folder}/record")?;
     let shells = SystemShells::new(rt.clone()?);
-    Ok(RealWorld::open_reading(rt.clone()?, shells, record.as_str())?)
+    Ok(RealWorld::open_reading(
+        rt.clone()?,
+        shells,
+        SystemDisk::new(rt.clone()?),
+        record.as_str(),
+    )?)
 }
 
 /// Checks that a world starts no command and keeps no entry, and knows the time.
-fn only_reads<R: Files + Print + Eprint + Wait + AllocGlobal, S: Shells>(
+fn only_reads<R: Files + Print + Eprint + Wait + AllocGlobal, S: Shells, D: Disk>(
     rt: &impl Abort,
     alloc: Global,
-    world: &RealWorld<R, S>,
+    world: &RealWorld<R, S, D>,
 ) -> Result<(), Fail>
 where
     R::File: Read + Write + Seek + OpenFile + SharedFile + Drop,

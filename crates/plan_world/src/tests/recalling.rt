@@ -2,18 +2,18 @@
 
 use super::begins::{makes, stricter_world_in};
 use super::*;
-use crate::Printed;
+use crate::{PermittedShell, Printed};
 use plan_text::PathFilter;
 use std::io::{self, ErrorKind};
-use std::process::{Command, ExitStatus};
+use std::process::ExitStatus;
 use std::sync::atomic::{AtomicU64, Ordering};
 
 /// Runs a command in a world, which gives the file at a path an old date. Checks that the world has seen no stamp,
 /// since its record was new.
-fn dates_back<R: Files + Print + Eprint + Wait + AllocGlobal, S: Shells>(
+fn dates_back<R: Files + Print + Eprint + Wait + AllocGlobal, S: Shells, D: Disk>(
     rt: &impl Abort,
     alloc: Global,
-    world: &RealWorld<R, S>,
+    world: &RealWorld<R, S, D>,
     file: &str,
 ) -> Result<(), Fail>
 where
@@ -63,10 +63,10 @@ fn made_with<W: World>(rt: &impl Abort, world: &W, answers: &[(&[u8], bool)]) ->
 }
 
 /// Makes `a` and `b` by the edge of `a`, and then `b` by an edge of its own. Checks the makers.
-fn makers_change<R: Files + Print + Eprint + Wait + AllocGlobal, S: Shells>(
+fn makers_change<R: Files + Print + Eprint + Wait + AllocGlobal, S: Shells, D: Disk>(
     rt: &impl Abort,
     alloc: Global,
-    world: &RealWorld<R, S>,
+    world: &RealWorld<R, S, D>,
 ) -> Result<(), Fail>
 where
     R::File: Read + Write + Seek + OpenFile + SharedFile + Drop,
@@ -187,10 +187,10 @@ fn start_entry_tells_no_paths(rt: HostRuntime) -> Result<(), Fail> {
 
 /// Runs commands for `a` and for `b`, of which the first takes longer than a tick of the file system's clock. Checks
 /// that none has begun before, and returns when the first one began.
-fn first_of_two<R: Files + Print + Eprint + Wait + AllocGlobal, S: Shells>(
+fn first_of_two<R: Files + Print + Eprint + Wait + AllocGlobal, S: Shells, D: Disk>(
     rt: &impl Abort,
     alloc: Global,
-    world: &RealWorld<R, S>,
+    world: &RealWorld<R, S, D>,
 ) -> Result<u64, Fail>
 where
     R::File: Read + Write + Seek + OpenFile + SharedFile + Drop,
@@ -341,7 +341,7 @@ struct CountsReason<'a> {
 impl Shells for CountsReason<'_> {
     ghost ended = { λ _ _. ⊥ };
 
-    fn output(&self, _shell: Command, _edge: &[u8]) -> io::Result<Printed> {
+    fn output(&self, _shell: PermittedShell, _edge: &[u8]) -> io::Result<Printed> {
         Err(io::Error::from(ErrorKind::NotFound))
     }
 
@@ -351,7 +351,7 @@ impl Shells for CountsReason<'_> {
 
     fn wait_for_label(&self, _edge: &[u8]) {}
 
-    fn status(&self, _shell: Command) -> io::Result<ExitStatus> {
+    fn status(&self, _shell: PermittedShell) -> io::Result<ExitStatus> {
         Err(io::Error::from(ErrorKind::NotFound))
     }
 }
@@ -363,10 +363,10 @@ fn reason_has<W: World>(rt: &impl Abort, world: &W, output: &[u8], len: &AtomicU
 }
 
 /// Checks that the reason why an entry ended is shown until the command of its edge has begun.
-fn reasons_are_shown<R: Files + Print + Eprint + Wait + AllocGlobal, S: Shells>(
+fn reasons_are_shown<R: Files + Print + Eprint + Wait + AllocGlobal, S: Shells, D: Disk>(
     rt: &impl Abort,
     alloc: Global,
-    world: &RealWorld<R, S>,
+    world: &RealWorld<R, S, D>,
     len: &AtomicU64,
 ) -> Result<(), Fail>
 where
@@ -390,7 +390,12 @@ fn reason_of_an_ended_entry(rt: HostRuntime) -> Result<(), Fail> {
     let record = format!(in rt.alloc(); "{folder}/record")?;
     let len = AtomicU64::new(0);
     let shells = CountsReason { len: &len };
-    let world = RealWorld::open(rt.clone()?, shells, record.as_str())?;
+    let world = RealWorld::open(
+        rt.clone()?,
+        shells,
+        SystemDisk::new(rt.clone()?),
+        record.as_str(),
+    )?;
     reasons_are_shown(&rt, rt.alloc(), &world, &len)?;
     drop(world);
     remove(&rt, folder);

@@ -9,7 +9,12 @@ use std::time::{Duration, UNIX_EPOCH};
 
 /// Returns why a record can't be opened, or `None` if it can.
 fn open_fault(rt: &HostRuntime, record: &str) -> Result<Option<OpenFault>, Fail> {
-    match RealWorld::open(rt.clone()?, SystemShells::new(rt.clone()?), record) {
+    match RealWorld::open(
+        rt.clone()?,
+        SystemShells::new(rt.clone()?),
+        SystemDisk::new(rt.clone()?),
+        record,
+    ) {
         Ok(world) => {
             drop(world);
             Ok(None)
@@ -18,11 +23,12 @@ fn open_fault(rt: &HostRuntime, record: &str) -> Result<Option<OpenFault>, Fail>
     }
 }
 
-/// Keeps two entries of the output `a`, and between them one without an output, which is refused.
+/// Keeps two entries of the output `a`, and between them one with an empty path, which is refused.
 fn keeps_two<W: World>(rt: &impl Abort, alloc: Global, world: &W) -> Result<(), Fail> {
     let none = PathList::empty(alloc)?;
     keep_is(rt, alloc, world, b"a", &none, "kept")?;
-    keep_is(rt, alloc, world, b"", &none, "fault")?;
+    let no_path = PathList::new(alloc, rows(alloc, &[b""])?)?;
+    keep_is(rt, alloc, world, b"a", &no_path, "fault")?;
     keep_is(rt, alloc, world, b"a", &none, "kept")
 }
 
@@ -54,10 +60,10 @@ fn has_begun<R: Files + Abort + AllocGlobal>(rt: &R, record: &str) -> Result<(),
 
 /// Keeps an entry of the output `a`, and then starts a command for `a` that copies the record and fails. Returns what
 /// the record has for `a` after that.
-fn failed_edge<R: Files + Print + Eprint + Wait + AllocGlobal, S: Shells>(
+fn failed_edge<R: Files + Print + Eprint + Wait + AllocGlobal, S: Shells, D: Disk>(
     rt: &impl Abort,
     alloc: Global,
-    world: &RealWorld<R, S>,
+    world: &RealWorld<R, S, D>,
     command: &[u8],
 ) -> Result<Recorded, Fail>
 where
@@ -86,7 +92,8 @@ fn keeps_after_begun<W: World>(
 ) -> Result<(), Fail> {
     let begun = recalled(world, b"a")?;
     assert_eq!(rt; begun.command().as_slice(), b"\0".as_slice());
-    let answer = said(alloc, world.keep(0, b"a", b"u", 9, paths)?)?;
+    let order = order_of(alloc, b"a", b"u", 9, paths)?;
+    let answer = said(alloc, world.keep(0, &order)?)?;
     assert_eq!(rt; answer.as_str(), "kept");
     let kept = recalled(world, b"a")?;
     assert_eq!(rt; kept.command().as_slice(), b"u".as_slice());
@@ -195,9 +202,9 @@ fn grown_record(rt: HostRuntime) -> Result<(), Fail> {
 }
 
 /// Checks that a long record is compacted by the first caller that needs it, or earlier.
-fn is_read_once<R: Files + Print + Eprint + Wait + AllocGlobal, S: Shells>(
+fn is_read_once<R: Files + Print + Eprint + Wait + AllocGlobal, S: Shells, D: Disk>(
     rt: &(impl Files + Abort + AllocGlobal),
-    world: &RealWorld<R, S>,
+    world: &RealWorld<R, S, D>,
     record: &str,
     is_asked: bool,
 ) -> Result<(), Fail>
@@ -233,9 +240,9 @@ fn long_record(rt: HostRuntime) -> Result<(), Fail> {
 }
 
 /// Checks that the only output of a long record is `a`, and that the record was read when the entries are returned.
-fn entries_are_read<R: Files + Eprint + Wait + AllocGlobal, S>(
+fn entries_are_read<R: Files + Eprint + Wait + AllocGlobal, S, D>(
     rt: &impl Abort,
-    world: &RealWorld<R, S>,
+    world: &RealWorld<R, S, D>,
 ) -> Result<(), Fail>
 where
     R::File: Read + Write + Seek + OpenFile + SharedFile + Drop,
@@ -265,10 +272,10 @@ fn entries_of_a_long_record(rt: HostRuntime) -> Result<(), Fail> {
 }
 
 /// Checks that a world starts no command and fails to recall an entry if its record can't be read.
-fn is_lost<R: Files + Print + Eprint + Wait + AllocGlobal, S: Shells>(
+fn is_lost<R: Files + Print + Eprint + Wait + AllocGlobal, S: Shells, D: Disk>(
     rt: &impl Abort,
     alloc: Global,
-    world: &RealWorld<R, S>,
+    world: &RealWorld<R, S, D>,
 ) -> Result<(), Fail>
 where
     R::File: Read + Write + Seek + OpenFile + SharedFile + Drop,
@@ -326,10 +333,10 @@ fn dates_of_rewritten_records(rt: HostRuntime) -> Result<(), Fail> {
 }
 
 /// Keeps an entry of `a`, which names `x` and `y`, and one of `b`, which names `z`, and begins `b` again.
-fn keeps_and_begins<R: Files + Print + Eprint + Wait + AllocGlobal, S: Shells>(
+fn keeps_and_begins<R: Files + Print + Eprint + Wait + AllocGlobal, S: Shells, D: Disk>(
     rt: &impl Abort,
     alloc: Global,
-    world: &RealWorld<R, S>,
+    world: &RealWorld<R, S, D>,
 ) -> Result<(), Fail>
 where
     R::File: Read + Write + Seek + OpenFile + SharedFile + Drop,

@@ -1,6 +1,6 @@
 use Rattle.std.proofs.Common.{◌≡◌, ◌+◌, ◌<◌, ◌∙◌, refl, suc, arith}
 use Rattle.plan_commands.specs.Showing.{by_format}
-use Rattle.plan_commands.proofs.BuildingLemmas.{no_rounds, round_so, err_so, on_ok, files_stay, then_remade, then_fails, then_stops, all_built, all_stopped}
+use Rattle.plan_commands.proofs.BuildingLemmas.{no_rounds, round_so, err_so, on_ok, files_stay, then_remade, then_fails, then_idle, then_stops, all_built, all_stopped}
 use Rattle.plan_commands.proofs.building.build_in_rounds.Goals as goal
 
 pub loop-init : goal.loop-init
@@ -10,6 +10,14 @@ pub returns-in-Ok-Failed-clause-done : goal.returns-in-Ok-Failed-clause-done
 returns-in-Ok-Failed-clause-done g c =
     let few : c.loop.counter < 100 = omega (arith, c.loop-test.true) in
     then_fails _ _ _ _ _ _ _ _ _ _ _ _ c.loop.invariant.1 _ few (round_so _ c.update_manifest-round.result.0 c.in-Ok-Failed.field-0 _ c.in-Ok-Failed.is c.in-Ok-Failed.field-0-is (c.update_manifest-round.ensures.round _ c.loop.invariant.0))
+
+pub returns-in-Ok-NothingToDo-clause-done : goal.returns-in-Ok-NothingToDo-clause-done
+returns-in-Ok-NothingToDo-clause-done g c =
+    let few : c.loop.counter < 100 = omega (arith, c.loop-test.true) in
+    then_idle _ _ _ _ _ _ _ _ _ _ _ _ c.loop.invariant.1 _ few (round_so _ c.update_manifest-round.result.0 c.in-Ok-NothingToDo.field-0 _ c.in-Ok-NothingToDo.is c.in-Ok-NothingToDo.field-0-is (c.update_manifest-round.ensures.round _ c.loop.invariant.0))
+
+pub returns-in-Ok-NothingToDo-clause-same : goal.returns-in-Ok-NothingToDo-clause-same
+returns-in-Ok-NothingToDo-clause-same g c = files_stay _ _ _ _ _ _ _ _ _ _ _ _ c.loop.invariant.1 _ _ c.update_manifest-round.ensures.same
 
 pub returns-in-Ok-Failed-clause-same : goal.returns-in-Ok-Failed-clause-same
 returns-in-Ok-Failed-clause-same g c = files_stay _ _ _ _ _ _ _ _ _ _ _ _ c.loop.invariant.1 _ _ c.update_manifest-round.ensures.same

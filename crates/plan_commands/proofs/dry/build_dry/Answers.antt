@@ -1,4 +1,4 @@
-use Rattle.std.proofs.Common.{inl, refl}
+use Rattle.std.proofs.Common.{inl, inr, refl}
 use Rattle.plan_commands.proofs.BuildingLemmas.{err_so, round_so}
 use Rattle.plan_commands.proofs.DryLemmas.{previewed, stopped}
 use Rattle.plan_commands.specs.Dry.{dry_rule}
@@ -12,6 +12,10 @@ returns-in-Ok-Remade-clause-done g c =
 pub returns-in-Ok-Failed-clause-done : goal.returns-in-Ok-Failed-clause-done
 returns-in-Ok-Failed-clause-done g c =
     round_so _ c.update_manifest-round.result.0 c.in-Ok-Failed.field-0 _ c.in-Ok-Failed.is c.in-Ok-Failed.field-0-is (c.update_manifest-round.ensures.round _ refl)
+
+pub returns-in-Ok-NothingToDo-clause-done : goal.returns-in-Ok-NothingToDo-clause-done
+returns-in-Ok-NothingToDo-clause-done g c =
+    inr (round_so _ c.update_manifest-round.result.0 c.in-Ok-NothingToDo.field-0 _ c.in-Ok-NothingToDo.is c.in-Ok-NothingToDo.field-0-is (c.update_manifest-round.ensures.round _ refl))
 
 pub returns-in-Ok-UpToDate-clause-done : goal.returns-in-Ok-UpToDate-clause-done
 returns-in-Ok-UpToDate-clause-done g c =

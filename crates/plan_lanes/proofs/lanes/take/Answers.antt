@@ -5,7 +5,7 @@ use Rattle.plan_lanes.specs.declared.board.Permit.{Permit}
 use Rattle.plan_lanes.specs.Batches.{Gathers, Held}
 use Rattle.plan_lanes.specs.Proceeds.{Proceeds}
 use Rattle.plan_lanes.specs.SharedRuns.{Shared}
-use Rattle.plan_lanes.proofs.BatchLemmas.{gathers_moved, gathers_none, takes_held, takes_nothing, takes_run}
+use Rattle.plan_lanes.proofs.BatchLemmas.{gathers_moved, gathers_none, permitted, takes_held, takes_nothing, takes_run}
 use Rattle.plan_lanes.proofs.lanes.take.Goals as goal
 
 pub loop-init : goal.loop-init
@@ -18,6 +18,13 @@ loop-preserved-in-Ok-Moved g c =
     let moved = subst (λ (x : Advance). Proceeds c.loop.shared.run c.advance.new.shared.run x) c.in-Ok-Moved.field-0-is c.in-Ok-Moved.ensures.ok in
     (tt, tt, gathers_moved c.args.shared.now.run c.loop.shared.run c.advance.new.shared.run c.args.batch.now c.advance.new.self sofar moved)
 
+pub new-requires : goal.new-requires
+new-requires g c =
+    let job : Proceeds c.loop.shared.run c.advance.new.shared.run (advance.Job c.in-Ok-Job.edge c.in-Ok-Job.question c.in-Ok-Job.permit) =
+    subst (λ (x : Advance). Proceeds c.loop.shared.run c.advance.new.shared.run x) c.in-Ok-Job.field-0-is c.in-Ok-Job.ensures.ok in
+    let run = subst (λ (o : Option Permit). Proceeds c.loop.shared.run c.advance.new.shared.run (advance.Job c.in-Ok-Job.edge c.in-Ok-Job.question o)) c.in-Some-permit.is job in
+    permitted c.loop.shared.run c.advance.new.shared.run c.in-Ok-Job.edge c.in-Ok-Job.question c.in-Some-permit.permit run
+
 pub returns-in-Some-permit : goal.returns-in-Some-permit
 returns-in-Some-permit g c =
     let sofar : Gathers c.args.shared.now.run c.loop.shared.run c.args.batch.now c.advance.new.self [] =
@@ -25,7 +32,7 @@ returns-in-Some-permit g c =
     let job : Proceeds c.loop.shared.run c.advance.new.shared.run (advance.Job c.in-Ok-Job.edge c.in-Ok-Job.question c.in-Ok-Job.permit) =
     subst (λ (x : Advance). Proceeds c.loop.shared.run c.advance.new.shared.run x) c.in-Ok-Job.field-0-is c.in-Ok-Job.ensures.ok in
     let run = subst (λ (o : Option Permit). Proceeds c.loop.shared.run c.advance.new.shared.run (advance.Job c.in-Ok-Job.edge c.in-Ok-Job.question o)) c.in-Some-permit.is job in
-    takes_run c.args.shared.now.run c.loop.shared.run c.advance.new.shared.run c.args.batch.now c.advance.new.self sofar c.in-Ok-Job.edge c.in-Ok-Job.question c.in-Some-permit.permit run
+    takes_run c.args.shared.now.run c.loop.shared.run c.advance.new.shared.run c.args.batch.now c.advance.new.self sofar c.in-Ok-Job.edge c.in-Ok-Job.question c.in-Some-permit.permit c.new.result c.new.ensures run
 
 pub returns-then-not-push : goal.returns-then-not-push
 returns-then-not-push g c = takes_nothing c.args.shared.now.run c.loop.shared.run c.advance.new.shared.run c.args.batch.now c.loop.batch c.loop.invariant.2 c.advance.ensures.goes

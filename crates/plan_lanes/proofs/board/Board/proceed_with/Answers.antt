@@ -1,6 +1,7 @@
 use Rattle.std.proofs.Common.{◌≡◌, ◌∙◌, subst, sym}
 use Rattle.std.specs.Prelude.{IfOk}
-use Rattle.plan_lanes.specs.Proceeds.{Permits, Proceeds}
+use Rattle.plan_lanes.specs.Permits.{Permits}
+use Rattle.plan_lanes.specs.Proceeds.{Proceeds}
 use Rattle.plan_lanes.specs.Progress.{Opened, Progress}
 use Rattle.plan_lanes.specs.Questions.{shown}
 use Rattle.plan_lanes.specs.LocalRuns.{GoesOn}
