@@ -2,25 +2,28 @@
 
 From the second build on, an object waits for the edges that make the headers which its last command read. So after an
 edit of a header's source, one build makes the header and then the object, with any number of jobs, and the build after
-that has nothing to do. The same must hold if the last command failed, or if the record was removed.
+that has nothing to do. The same must hold if the last command failed, if the record was removed, or if ninja compiled
+the object with `deps`, and so removed its depfile.
 """
 from __future__ import annotations
 
 import functools
 import pathlib
 import random
+import shutil
 import time
 from collections.abc import Iterator
 from typing import Dict, List, Sequence, Tuple
 
 from lib import programs
 from lib.place import expect
-from lib.suite import Case, Setting
+from lib.suite import Case, LeftOut, Setting
 from suites.progress import TICK, Edge, says, write
 
 NOTHING = ("ninja: no work to do.\n", "", 0)
 RESTAT = "  restat = 1\n"
 DEPFILE = "  depfile = $out.d\n"
+DEPS = "  deps = gcc\n"
 ROUNDS = 12  # of random edits, in each tree
 
 
@@ -191,14 +194,89 @@ def listed(more: str, builder: str, folder: pathlib.Path) -> None:
     expect("the dry build after it", NOTHING, says(builder, folder, "-n"))
 
 
+def ninja() -> str:
+    """Returns the path of ninja."""
+    found = shutil.which("ninja")
+    if not found:
+        raise LeftOut("ninja isn't installed")
+    return found
+
+
+def after_ninja(words: Tuple[str, ...], builder: str, folder: pathlib.Path) -> None:
+    """ninja built all. After a build of some targets, the source of the header is edited."""
+    files = {"a.c": "a\n", "h.in": "one\n", "x.in": "x\n"}
+    begun(ninja(), folder, (compiled("a", "h", DEPS), copied("h", "h.in"), copied("x", "x.in")), files, "h")
+    if words:
+        expect("status of the other targets", 0, says(builder, folder, *words)[2])
+        time.sleep(TICK)
+    (folder / "h.in").write_text("two\n")
+    expect("dry build", ["h", "a.o"],
+           [line.split()[-1] for line in says(builder, folder, "-n", "a.o")[0].splitlines()])
+    builds("the edit", builder, folder, {"a.o": "a\ntwo\n"}, "-j4")
+
+
+def read_for_ninja(more: str, builder: str, folder: pathlib.Path) -> None:
+    """Both programs built the object, and since then ninja's command reads another header."""
+    files = {"a.c": "a\n", "g.in": "g\n", "h.in": "one\n", "which": "g\n"}
+    reads = Edge("a.o", "cat a.c $$(cat which) > a.o; echo a.o: $$(cat which) > a.o.d", "a.c", DEPFILE + DEPS + more)
+    begun(builder, folder, (reads, copied("g", "g.in"), copied("h", "h.in")), files, "g", "h")
+    programs.write({"a.c": "b\n", "which": "h\n"}, folder)
+    expect("status of ninja", 0, says(ninja(), folder)[2])
+    expect("object of ninja", "b\none\n", (folder / "a.o").read_text())
+    time.sleep(TICK)
+    (folder / "h.in").write_text("two\n")
+    builds("the edit", builder, folder, {"a.o": "b\ntwo\n"}, "-j4")
+
+
+def failed_after_ninja(builder: str, folder: pathlib.Path) -> None:
+    """ninja built all. The next command of the object fails, so it has a start entry. Then the header changes."""
+    files = {"a.c": "a\n", "h.in": "one\n", "ok": ""}
+    command = "test -e ok && cat a.c h > a.o && echo a.o: h > a.o.d"
+    begun(ninja(), folder, (Edge("a.o", command, "a.c", DEPFILE + DEPS), copied("h", "h.in")), files, "h")
+    (folder / "ok").unlink()
+    expect("status of the failure", 1, says(builder, folder)[2])
+    time.sleep(TICK)
+    programs.write({"ok": "", "h.in": "two\n"}, folder)
+    builds("the failure", builder, folder, {"a.o": "a\ntwo\n"}, "-j4")
+
+
+def spoilt(builder: str, folder: pathlib.Path) -> None:
+    """What ninja recorded is cut, or one of its bytes is another one: a build ends, and the object is right then."""
+    files = {"a.c": "a\n", "h.in": "one\n"}
+    begun(ninja(), folder, (compiled("a", "h", DEPS), copied("h", "h.in")), files, "h")
+    whole = (folder / ".ninja_deps").read_bytes()
+    for number in range(len(whole)):
+        changed = whole[:number] if number % 2 else whole[:number] + b"\xff" + whole[number + 1:]
+        (folder / ".ninja_deps").write_bytes(changed)
+        (folder / ".plan_record").unlink(missing_ok=True)
+        printed, errors, status = says(builder, folder)
+        expect(f"errors and status after byte {number}", ("", 0), (errors, status))
+        expect(f"commands after byte {number}", ["a.o", "h"], sorted(line.split()[-1] for line in printed.splitlines()))
+        expect(f"object after byte {number}", "a\none\n", (folder / "a.o").read_text())
+
+
+def generator_by_ninja(builder: str, folder: pathlib.Path) -> None:
+    """ninja ran a generator with `deps`, which reads another source now. An edit of that source is seen."""
+    files = {"a": "a\n", "b": "b\n", "which": "a\n", "s": "s\n"}
+    command = "cat s $$(cat which) > out; echo out: $$(cat which) > out.d"
+    begun(builder, folder, (Edge("out", command, "s", DEPFILE + DEPS + "  generator = 1\n"),), files)
+    programs.write({"s": "t\n", "which": "b\n"}, folder)
+    expect("status of ninja", 0, says(ninja(), folder)[2])
+    expect("output of ninja", "t\nb\n", (folder / "out").read_text())
+    time.sleep(TICK)
+    (folder / "b").write_text("c\n")
+    builds("the edit", builder, folder, {"out": "t\nc\n"})
+
+
 class Tree:
     """Headers that edges make, some of other headers, and objects that name their headers in depfiles only."""
 
     headers, objects = 6, 8
     made_of = {2: 1, 5: 4}  # headers that are made of another one, too
 
-    def __init__(self, folder: pathlib.Path, seed: int) -> None:
+    def __init__(self, folder: pathlib.Path, seed: int, more: str = "") -> None:
         self.folder = folder
+        self.more = more  # lines of the objects' rules
         self.any = random.Random(seed)
         self.edits = 0
         self.read: List[List[int]] = []
@@ -221,7 +299,7 @@ class Tree:
     def object_edge(self, number: int) -> Edge:
         """Returns the edge of an object. Its source lists the headers that it reads."""
         command = "hs=$$(cat $in); cat $$hs > $out; echo $out: $$hs > $out.d"
-        return Edge(f"o{number}", command, f"c{number}", DEPFILE)
+        return Edge(f"o{number}", command, f"c{number}", DEPFILE + self.more)
 
     def edit(self, number: int) -> None:
         """Writes a new text into the source of a header."""
@@ -274,8 +352,26 @@ def rounds(count: int, seed: int, builder: str, folder: pathlib.Path) -> None:
         expect(f"the build after round {number}", NOTHING, says(builder, folder))
 
 
+def turns(count: int, seed: int, builder: str, folder: pathlib.Path) -> None:
+    """Both programs build in turns, after random edits and removals. Each build by plan_build is right."""
+    other = ninja()
+    tree = Tree(folder, seed, DEPS)
+    expect("status of the headers", 0, says(other, folder, *(f"h{number}" for number in range(tree.headers)))[2])
+    expect("status of the first build", 0, says(other, folder)[2])
+    for number in range(count):
+        time.sleep(0.012)
+        tree.change()
+        program = tree.any.choice((builder, other))
+        targets = tree.any.choice(((), (), ("o0", "o1", "o2")))
+        printed, errors, status = says(program, folder, f"-j{tree.any.randint(1, 8)}", *targets)
+        expect(f"errors and status of round {number}", ("", 0), (errors, status))
+        if program == builder and not targets:
+            tree.objects_are_right(f"round {number}: {printed}")
+            expect(f"the build after round {number}", NOTHING, says(builder, folder))
+
+
 def cases(setting: Setting) -> Iterator[Case]:
-    """Yields the edits, the removals, old entries, and random trees."""
+    """Yields the edits, the removals, old entries, builds after ninja's, and random trees."""
     builder = programs.front(setting.program)
     for jobs in ("-j1", "-j2", "-j8"):
         yield Case(f"edited source, {jobs}", functools.partial(edited, jobs, "", builder))
@@ -293,5 +389,14 @@ def cases(setting: Setting) -> Iterator[Case]:
     yield Case("declared header", functools.partial(declared, builder))
     for more in ("", RESTAT):
         yield Case(f"listed commands{', restat' if more else ''}", functools.partial(listed, more, builder))
+    yield Case("after ninja", functools.partial(after_ninja, (), builder))
+    yield Case("after ninja and another target", functools.partial(after_ninja, ("x",), builder))
+    for more in ("", RESTAT):
+        yield Case(f"header of ninja's command{', restat' if more else ''}",
+                   functools.partial(read_for_ninja, more, builder))
+    yield Case("failed command after ninja", functools.partial(failed_after_ninja, builder))
+    yield Case("spoilt record of ninja", functools.partial(spoilt, builder))
+    yield Case("generator by ninja", functools.partial(generator_by_ninja, builder))
     for seed in range(setting.seed, setting.seed + 4):
         yield Case(f"random edits {seed}", functools.partial(rounds, setting.counted(ROUNDS), seed, builder))
+        yield Case(f"random turns {seed}", functools.partial(turns, setting.counted(ROUNDS), seed, builder))

@@ -23,7 +23,7 @@ use Rattle.plan_graph.specs.declared.further_waits.Wait.{Wait}
 use Rattle.plan_graph.specs.declared.graph_data.Graph.{Graph}
 use Rattle.plan_lanes.specs.Journals.{Rule}
 use Rattle.plan_lanes.specs.Recalled.{AreAmong, RecallsAmong}
-use Rattle.plan_commands.specs.Recorded.{AreRecalled, AreRecalledBetween, AreRecorded, AreSome, DependsOn, IsMadeElsewhere, IsMadeIn, IsNeeded, IsOrderOnly, IsRecalled, IsRecalledFrom, IsRecorded, IsWaitOf, MayLeave, MayLeaveIn, NamesAmong, NamesOutput, ReadsAmong, directly, through, name_of, own_paths, paths_for}
+use Rattle.plan_commands.specs.Recorded.{AreRecalled, AreRecalledBetween, AreRecorded, AreSome, DependsOn, IsMadeElsewhere, IsMadeIn, IsNeeded, IsOrderOnly, IsRecalled, IsRecalledFrom, IsRecorded, IsWaitOf, MayLeave, MayLeaveIn, NamesAmong, NamesOutput, NamesOwn, ReadsAmong, directly, through, name_of, own_paths, paths_for}
 
 -- ---- makers
 
@@ -197,13 +197,24 @@ both_among wanted xs ys us vs h k = record {
   all = λ x i w. elim (contains_either xs ys x i) [ inl j ↦ Contains-append_left us vs x (h.all x j w) | inr j ↦ Contains-append_right us vs x (k.all x j w) ];
 }
 
-pub names_read : (rule : Rule) (wanted : List Text) (e : Edge) (found : List Text) → ReadsAmong rule wanted e found → NamesAmong rule wanted e found
+pub names_read : (rule : Rule) (wanted : List Text) (e : Edge) (found : List Text) → ReadsAmong rule wanted e found → NamesOwn rule wanted e found
 names_read rule wanted e found h = (h.0, inr (inl h.1), h.2)
 
 pub names_both : (rule : Rule) (wanted : List Text) (e : Edge) (named kept found : List Text) → ReadsAmong rule wanted e named → RecallsAmong rule wanted (name_of e) kept → found ≡ named ++ kept
-    → NamesAmong rule wanted e found
+    → NamesOwn rule wanted e found
 names_both rule wanted e named kept found h k same =
     (h.0 ++ k.0, inr (inr (h.0, k.0, h.1, k.1, refl)), subst (λ (l : List Text). AreAmong wanted (h.0 ++ k.0) l) (sym same) (both_among wanted h.0 k.0 named kept h.2 k.2))
+
+pub names_recalled : (rule : Rule) (wanted : List Text) (e : Edge) (found : List Text) → RecallsAmong rule wanted (name_of e) found → NamesOwn rule wanted e found
+names_recalled rule wanted e found h = (h.0, inl h.1, h.2)
+
+pub names_own : (rule : Rule) (wanted : List Text) (e : Edge) (found : List Text) → NamesOwn rule wanted e found → NamesAmong rule wanted e found
+names_own rule wanted e found h = (h.0, inl h.1, h.2)
+
+pub names_others : (rule : Rule) (wanted : List Text) (e : Edge) (own others found : List Text) → NamesOwn rule wanted e own → RecallsAmong rule wanted (name_of e) others → found ≡ own ++ others
+    → NamesAmong rule wanted e found
+names_others rule wanted e own others found h k same =
+    (h.0 ++ k.0, inr (h.0, k.0, h.1, k.1, refl), subst (λ (l : List Text). AreAmong wanted (h.0 ++ k.0) l) (sym same) (both_among wanted h.0 k.0 own others h.2 k.2))
 
 -- The paths of an entry that are outputs are all that an edge may need.
 recorded_of : (rule : Rule) (edges : List Edge) (e : ℕ) (edge : Edge) (paths : List Text) → ((edge.depfile ≡ []) × (paths ≡ [])) ⊎ NamesAmong rule (flat_map outputs_of edges) edge paths → IsRecorded rule edges e edge paths

@@ -39,10 +39,18 @@ MayRead rule path paths = (n : ℕ) × (r : Reply) × rule n (Deps path) r × (p
 abbrev pub MayReadBegun : Rule → Edge → (paths : List Text) → Type 0
 MayReadBegun rule e paths = (named kept : List Text) × MayRead rule e.depfile named × MayRecall rule (name_of e) kept × (paths ≡ named ++ kept)
 
--- The paths that the last commands of an edge read, as far as the world tells: by an entry, by its depfile, or by both if
--- it is a start entry.
+-- The paths that the last commands of an edge read, as far as the record and the edge's depfile tell: by an entry, by the
+-- depfile, or by both if it is a start entry.
+abbrev pub MayNameOwn : Rule → Edge → (paths : List Text) → Type 0
+MayNameOwn rule e paths = MayRecall rule (name_of e) paths ⊎ MayRead rule e.depfile paths ⊎ MayReadBegun rule e paths
+
+-- Such paths, and then those that the record of another builder names for the edge.
+abbrev pub MayNameBoth : Rule → Edge → (paths : List Text) → Type 0
+MayNameBoth rule e paths = (own others : List Text) × MayNameOwn rule e own × MayRecall rule (name_of e) others × (paths ≡ own ++ others)
+
+-- The paths that the last commands of an edge read, as far as the world tells.
 abbrev pub MayName : Rule → Edge → (paths : List Text) → Type 0
-MayName rule e paths = MayRecall rule (name_of e) paths ⊎ MayRead rule e.depfile paths ⊎ MayReadBegun rule e paths
+MayName rule e paths = MayNameOwn rule e paths ⊎ MayNameBoth rule e paths
 
 -- Edge e waits for edge w, directly or through other edges.
 pub data DependsOn (waits : List (List ℕ)) (e : ℕ) : ℕ → Type 0 where
@@ -119,6 +127,10 @@ pub record AreRecorded (rule : Rule) (m : Manifest) (additions : List Addition) 
 -- The paths that the last command of an edge read, of those that are wanted.
 abbrev pub NamesAmong : Rule → (wanted : List Text) → Edge → (found : List Text) → Type 0
 NamesAmong rule wanted e found = (paths : List Text) × MayName rule e paths × AreAmong wanted paths found
+
+-- Those of these paths that the record and the depfile tell.
+abbrev pub NamesOwn : Rule → (wanted : List Text) → Edge → (found : List Text) → Type 0
+NamesOwn rule wanted e found = (paths : List Text) × MayNameOwn rule e paths × AreAmong wanted paths found
 
 -- The paths that the depfile of an edge names, of those that are wanted.
 abbrev pub ReadsAmong : Rule → (wanted : List Text) → Edge → (found : List Text) → Type 0

@@ -2,6 +2,7 @@
 
 ghost use Rattle.std.specs.Prelude.{◌≡◌, IfErr, IfOk, OnOk, map};
 ghost use Rattle.plan_scope.specs.Loading.{IsMissing};
+ghost use Rattle.plan_scope.specs.Sources.{SameFiles};
 ghost use Rattle.plan_commands.specs.Building as defined;
 ghost use Rattle.plan_commands.specs.Dry.{DryStops, Previews, dry_rule};
 ghost use Rattle.plan_commands.specs.Showing.{by_format};
@@ -98,6 +99,16 @@ impl<R: Wait, W: World> World for DryWorld<'_, R, W> {
         wanted: &PathFilter,
     ) -> Result<Option<RowList<u8>>, AllocError> {
         self.world.begun_among(alloc, output, wanted)
+    }
+
+    fn foreign_among(
+        &self,
+        alloc: Global,
+        output: &[u8],
+        wanted: &PathFilter,
+        is_recorded: bool,
+    ) -> Result<Option<RowList<u8>>, AllocError> {
+        self.world.foreign_among(alloc, output, wanted, is_recorded)
     }
 
     fn record_stamp(&self) -> Option<u64> {
@@ -201,6 +212,7 @@ fn build_dry<
     ensures done { let a = defined.asked order.now.manifest.now order.now.options (map (λ n. n.now) order.now.targets.now) in
         IfOk result.0 (λ d. Previews (S.gives source.old) (by_format F.kept F.tells (F.kept printer.format)) (dry_rule W.allows) a (O.failures printer.out, O.taken printer.out) (O.failures result.1.out, O.taken result.1.out) d) }
     ensures read { OnOk result.0 (S.failures source.new ≡ S.failures source.old) }
+    ensures same { SameFiles (S.gives source.new) (S.fails source.new) (S.gives source.old) (S.fails source.old) }
     ensures refused { let a = defined.asked order.now.manifest.now order.now.options (map (λ n. n.now) order.now.targets.now) in
         let missing = IsMissing (S.gives source.old) (S.fails source.old) (S.failures source.old) (S.failures source.new) in
         IfErr result.0 (λ fault. DryStops (S.gives source.old) missing (by_format F.kept F.tells (F.kept printer.format)) (dry_rule W.allows) a (O.failures printer.out, O.taken printer.out) (O.failures result.1.out, O.taken result.1.out) fault) }
@@ -254,6 +266,7 @@ pub fn do_dry_build<
     ensures done { let a = defined.asked order.now.manifest.now order.now.options (map (λ n. n.now) order.now.targets.now) in
         IfOk result.0 (λ d. Previews (S.gives source.old) (by_format F.kept F.tells (F.kept printer.format)) (dry_rule W.allows) a (O.failures printer.out, O.taken printer.out) (O.failures result.1.out, O.taken result.1.out) d) }
     ensures read { OnOk result.0 (S.failures source.new ≡ S.failures source.old) }
+    ensures same { SameFiles (S.gives source.new) (S.fails source.new) (S.gives source.old) (S.fails source.old) }
     ensures refused { let a = defined.asked order.now.manifest.now order.now.options (map (λ n. n.now) order.now.targets.now) in
         let missing = IsMissing (S.gives source.old) (S.fails source.old) (S.failures source.old) (S.failures source.new) in
         IfErr result.0 (λ fault. DryStops (S.gives source.old) missing (by_format F.kept F.tells (F.kept printer.format)) (dry_rule W.allows) a (O.failures printer.out, O.taken printer.out) (O.failures result.1.out, O.taken result.1.out) fault) }

@@ -145,14 +145,15 @@ fn check_generator<'a, W: World>(world: &W, edge: &EdgeRef<'a>) -> Result<(), Al
     }
 }
 
-/// Ends the entry of an edge if its outputs were written by something else. Returns whether the entry still counts.
+/// Ends the entry of an edge if its outputs were written by something else. Returns whether the entry still counts. That
+/// of a generator counts: generators are also run by hand. But of one with `deps` nothing else says what it read then.
 fn check_all_outputs<'a, W: World>(
     alloc: Global,
     world: &W,
     pause: &Option<Pause>,
     edge: &EdgeRef<'a>,
 ) -> Result<bool, AllocError> {
-    if edge.is_generator() {
+    if edge.is_generator() & !edge.has_deps() {
         return Ok(true);
     }
     let first = first_output(edge);
@@ -219,7 +220,8 @@ impl Checks {
 /// Ends the entries of edges that don't count in this build:
 ///
 /// - an output was written after the record was last written and before now, or before a command of this build began,
-///   or it was last made by the command of another edge. Generators are also run by hand, so theirs count.
+///   or it was last made by the command of another edge. Generators are also run by hand, so theirs count, except those
+///   with `deps`: what they read is known only of those runs that the record has.
 /// - a depfile that stands for itself is missing, or something else wrote it and it doesn't suit the entry.
 ///
 /// A generator with a depfile and without an entry runs.

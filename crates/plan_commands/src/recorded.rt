@@ -4,7 +4,7 @@ ghost use Rattle.std.specs.Prelude.{◌≡◌, ◌⊎◌, ◌<◌, ◌≤◌, �
 ghost use Rattle.plan_graph.specs.Graph.{IsGraph, max_edges, outputs_of};
 ghost use Rattle.plan_depfile.specs.Depfile.{depfile_of};
 ghost use Rattle.plan_lanes.specs.Recalled.{AreAmong};
-ghost use Rattle.plan_commands.specs.Recorded.{AreRecalled, AreRecalledBetween, AreRecorded, AreSome, DependsOn, IsMadeIn, IsNeeded, IsRecalled, IsWaitOf, MayLeaveIn, NamesAmong, ReadsAmong, name_of, ok_or_none, own_paths, paths_for, paths_in};
+ghost use Rattle.plan_commands.specs.Recorded.{AreRecalled, AreRecalledBetween, AreRecorded, AreSome, DependsOn, IsMadeIn, IsNeeded, IsRecalled, IsWaitOf, MayLeaveIn, NamesAmong, NamesOwn, ReadsAmong, name_of, ok_or_none, own_paths, paths_for, paths_in};
 
 use crate::depfiles::check_unrecorded;
 use plan_graph::{Graph, Wait, cycle_with};
@@ -111,7 +111,7 @@ fn unrecorded_paths<'a, W: World>(
     filter: &PathFilter,
     edge: &EdgeRef<'a>,
 ) -> Result<RowList<u8>, AllocError>
-    ensures { IfOk result (λ found. NamesAmong W.allows filter.now edge.now found) }
+    ensures { IfOk result (λ found. NamesOwn W.allows filter.now edge.now found) }
 {
     let named = depfile_paths(alloc, world, filter, edge)?;
     match world.begun_among(alloc, first_output(edge), filter)? {
@@ -123,9 +123,33 @@ fn unrecorded_paths<'a, W: World>(
     }
 }
 
+/// Returns these paths of an edge, and then those that the record of another builder names for it, if they may be
+/// outputs. `is_recorded` says whether these paths are those of its entry.
+#[tactic(auto, using(crate::proofs::RecordedLemmas::names_own, crate::proofs::RecordedLemmas::names_others))]
+fn with_foreign<'a, W: World>(
+    alloc: Global,
+    world: &W,
+    filter: &PathFilter,
+    edge: &EdgeRef<'a>,
+    is_recorded: bool,
+    own: RowList<u8>,
+) -> Result<RowList<u8>, AllocError>
+    requires { NamesOwn W.allows filter.now edge.now own }
+    ensures { IfOk result (λ paths. NamesAmong W.allows filter.now edge.now paths) }
+{
+    match world.foreign_among(alloc, first_output(edge), filter, is_recorded)? {
+        Some(others) => {
+            let all = both_paths(own, &others)?;
+            Ok(all)
+        }
+        None => Ok(own),
+    }
+}
+
 /// Returns the paths that the last commands of an edge read and that may be outputs: by its entry, or by its depfile and
-/// its start entry if there is no entry of a command that ended, or one without paths. Returns none for an edge without
-/// a depfile.
+/// its start entry if there is no entry of a command that ended, or one without paths; and by the record of another
+/// builder. Returns none for an edge without a depfile.
+#[tactic(auto, using(crate::proofs::RecordedLemmas::names_recalled))]
 fn recorded_paths<'a, W: World>(
     alloc: Global,
     world: &W,
@@ -138,8 +162,11 @@ fn recorded_paths<'a, W: World>(
         return Ok(RowList::new(alloc));
     }
     match world.recorded_among(alloc, first_output(edge), filter)? {
-        Some(paths) => Ok(paths),
-        None => unrecorded_paths(alloc, world, filter, edge),
+        Some(paths) => with_foreign(alloc, world, filter, edge, true, paths),
+        None => {
+            let paths = unrecorded_paths(alloc, world, filter, edge)?;
+            with_foreign(alloc, world, filter, edge, false, paths)
+        }
     }
 }
 

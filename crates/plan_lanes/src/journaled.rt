@@ -70,6 +70,16 @@ impl<W: World> World for Journaled<'_, W> {
         self.world.begun_among(alloc, output, wanted)
     }
 
+    fn foreign_among(
+        &self,
+        alloc: Global,
+        output: &[u8],
+        wanted: &PathFilter,
+        is_recorded: bool,
+    ) -> Result<Option<RowList<u8>>, AllocError> {
+        self.world.foreign_among(alloc, output, wanted, is_recorded)
+    }
+
     fn take_outputs(&self, outputs: PathFilter) {
         self.world.take_outputs(outputs);
     }

@@ -92,6 +92,26 @@ pub trait World {
         Ok(None)
     }
 
+    /// Returns the paths that the record of another builder names for an output, except those that are not in a set: what
+    /// a command of that builder read. The set may say too often that it has a path. `is_recorded` says whether
+    /// `recorded_among` returned paths for the output. If so, the other record counts only if it is as late as the
+    /// record was when this build opened it. Returns None if the other record doesn't count or names nothing. A world
+    /// that reads no records of other builders has none.
+    ///
+    /// # Errors
+    /// `AllocError` if memory runs out.
+    fn foreign_among(
+        &self,
+        _alloc: Global,
+        _output: &[u8],
+        _wanted: &PathFilter,
+        _is_recorded: bool,
+    ) -> Result<Option<RowList<u8>>, AllocError>
+        ensures { IfOk result (λ found. IfSome found (λ paths. RecallsAmong Self.allows _wanted.now _output.now paths)) }
+    {
+        Ok(None)
+    }
+
     /// Takes the set of the paths that edges of the manifest make. Start entries keep such paths. The set may say too
     /// often that it has a path. A world without start entries does nothing.
     fn take_outputs(&self, _outputs: PathFilter) {}

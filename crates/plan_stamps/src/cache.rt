@@ -206,6 +206,18 @@ impl<R: Wait, W: World> World for StampCache<'_, R, W> {
         self.inner.world.begun_among(alloc, output, wanted)
     }
 
+    fn foreign_among(
+        &self,
+        alloc: Global,
+        output: &[u8],
+        wanted: &PathFilter,
+        is_recorded: bool,
+    ) -> Result<Option<RowList<u8>>, AllocError> {
+        self.inner
+            .world
+            .foreign_among(alloc, output, wanted, is_recorded)
+    }
+
     fn take_outputs(&self, outputs: PathFilter) {
         self.inner.world.take_outputs(outputs);
     }

@@ -1,5 +1,5 @@
 -- What is kept of the record's file. Serves src/record_file.rt.
-use Rattle.std.proofs.Common.{◌≡◌, ◌<◌, ◌≤◌, arith, refl, ◌+◌, ℕ, Bool, true, false, List, [], ◌∷◌, ◌++◌, Option, Some, None, IfSome, length, ap, sym, subst, ◌∙◌, bytes_eq, length-append, length-take-le, if◌then◌else◌, get_or, map, take}
+use Rattle.std.proofs.Common.{◌≡◌, ◌<◌, ◌≤◌, arith, refl, ◌+◌, ℕ, Bool, true, false, List, [], ◌∷◌, ◌++◌, Option, Some, None, IfSome, length, ap, sym, subst, ◌∙◌, bytes_eq, length-append, length-take-le, if◌then◌else◌, get_or, take}
 use Rattle.std.specs.List.{flat_map}
 use Rattle.std.proofs.lemmas.List.{flat_map_more, map-append, take_all, take_more}
 use Rattle.std.proofs.lemmas.List.Elements.{All-nil, All-push}

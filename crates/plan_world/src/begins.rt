@@ -3,6 +3,7 @@
 ghost use Rattle.std.specs.Prelude.{◌≤◌};
 
 use crate::fault::DeviceFault;
+use crate::ninja_deps::NinjaDeps;
 use crate::ninja_log::NinjaLog;
 use crate::stamp::stamp_of;
 use indexmap::IndexMap;
@@ -27,6 +28,8 @@ pub(crate) struct Begins {
     has_warned: AtomicBool,
     /// ninja's own log, in which their outputs are marked.
     ninja_log: NinjaLog,
+    /// ninja's own record of what its commands read.
+    ninja_deps: NinjaDeps,
 }
 
 /// Returns the basis of the entry of a command that began at a stamp: what it read is at most as new as its begin.
@@ -45,20 +48,26 @@ pub(crate) fn is_later(stamp: u64, now: u64) -> bool {
 }
 
 impl Begins {
-    /// Creates an empty list, next to a log of ninja.
-    pub(crate) fn new(alloc: Global, ninja_log: NinjaLog) -> Begins {
-        Begins {
+    /// Creates an empty list, with ninja's own files in the folder of a record.
+    pub(crate) fn next_to(alloc: Global, record: &str) -> Result<Begins, DeviceFault> {
+        Ok(Begins {
             alloc,
             stamps: Mutex::new(IndexMap::new(alloc)),
             first: AtomicU64::new(0),
             has_warned: AtomicBool::new(false),
-            ninja_log,
-        }
+            ninja_log: NinjaLog::next_to(alloc, record)?,
+            ninja_deps: NinjaDeps::next_to(alloc, record)?,
+        })
     }
 
     /// Returns ninja's log.
     pub(crate) fn ninja_log(&self) -> &NinjaLog {
         &self.ninja_log
+    }
+
+    /// Returns ninja's record of what its commands read.
+    pub(crate) fn ninja_deps(&self) -> &NinjaDeps {
+        &self.ninja_deps
     }
 
     /// Adds the begin of the command of an edge.

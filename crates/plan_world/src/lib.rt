@@ -25,6 +25,7 @@ mod fault;
 mod holders;
 mod maintenance;
 mod manifest_paths;
+mod ninja_deps;
 mod ninja_log;
 mod parts;
 mod permitted_shell;

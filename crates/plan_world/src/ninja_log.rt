@@ -141,7 +141,7 @@ fn open_log<R: Files>(rt: &R, path: &str) -> Result<Option<R::File>, DeviceFault
 }
 
 /// Returns the folder of a path, with the slash after it. Returns no text if the path has no folder.
-fn folder_of(path: &str) -> &str {
+pub(crate) fn folder_of(path: &str) -> &str {
     match path.rsplit_once('/') {
         Some((folder, _)) => &path[..folder.len() + 1],
         None => "",

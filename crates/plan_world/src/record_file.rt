@@ -85,7 +85,10 @@ impl<F> Model for RecordFile<F> {
 }
 
 /// Returns all bytes of a file. Allocates room for them once, by the file's length.
-fn read_all<F: Read + OpenFile>(alloc: Global, file: &mut F) -> Result<Vec<u8>, DeviceFault>
+pub(crate) fn read_all<F: Read + OpenFile>(
+    alloc: Global,
+    file: &mut F,
+) -> Result<Vec<u8>, DeviceFault>
     ensures { IfOk result (λ bytes. IfSome (F.remaining file.old) (λ all. bytes.items ≡ all)) }
 {
     let len = file.metadata()?.len();
@@ -197,7 +200,7 @@ where
 
 /// Opens the file at a path only to read it, or a file without bytes if it is missing. Folders, devices and pipes are
 /// refused.
-fn open_to_read<R: Files>(rt: &R, path: &str) -> Result<R::File, DeviceFault>
+pub(crate) fn open_to_read<R: Files>(rt: &R, path: &str) -> Result<R::File, DeviceFault>
 where
     R::File: OpenFile + Drop,
 {

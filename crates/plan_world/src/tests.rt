@@ -5,6 +5,7 @@ mod commands;
 mod disk;
 mod failing;
 mod kept_paths;
+mod ninja_deps;
 mod ninja_log;
 mod orders;
 mod reading;

@@ -16,7 +16,6 @@ use crate::disk::Disk;
 use crate::ended_entries::EndedEntries;
 use crate::fault::{DeviceFault, OpenFault};
 use crate::manifest_paths::ManifestPaths;
-use crate::ninja_log::NinjaLog;
 use crate::read_depfiles::ReadDepfiles;
 use crate::reasons::say;
 use crate::record_file::{Kept, RecordFile, StartRecorded, open_file, open_record, read_as_is};
@@ -115,8 +114,7 @@ where
         S: Drop,
         D: Drop,
     {
-        let ninja_log = NinjaLog::next_to(rt.alloc(), record)?;
-        let begins = Begins::new(rt.alloc(), ninja_log);
+        let begins = Begins::next_to(rt.alloc(), record)?;
         RealWorld::open_with(rt, shells, disk, record, Some(begins))
     }
 
@@ -137,8 +135,7 @@ where
         S: Drop,
         D: Drop,
     {
-        let ninja_log = NinjaLog::next_to(rt.alloc(), record)?;
-        let begins = Begins::new(rt.alloc(), ninja_log);
+        let begins = Begins::next_to(rt.alloc(), record)?;
         let opened = open_for_reading(&rt, record);
         RealWorld::with_opened(rt, shells, disk, record, Some(begins), opened)
     }
@@ -672,6 +669,60 @@ where
         }
     }
 
+    /// Checks whether ninja's record of what its commands read counts for an output, if this is a world of the stricter
+    /// rule. If the output has an entry of a command that ended, ninja's record must be as late as the record was when
+    /// it was opened. `is_recorded` says that there is such an entry, which names paths.
+    fn counts_for_ninja(&self, output: &[u8], is_recorded: bool) -> Result<bool, DeviceFault> {
+        let Some(begins) = &self.begins else {
+            return Ok(false);
+        };
+        let is_later = match self.opened {
+            Some(opened) => begins.ninja_deps().is_written_since(&self.rt, opened),
+            None => false,
+        };
+        if is_later | is_recorded {
+            return Ok(is_later);
+        }
+        match self.last_recorded(output)? {
+            Some(last) => Ok(is_begun(&last)),
+            None => Ok(true),
+        }
+    }
+
+    /// Returns the paths that ninja's record names for an output and that may be in a set. Returns None if it names none.
+    fn named_by_ninja(
+        &self,
+        output: &[u8],
+        wanted: &PathFilter,
+    ) -> Result<Option<RowList<u8>>, DeviceFault>
+        ensures { IfOk result (λ found. IfSome found (λ paths. AreAskable paths)) }
+    {
+        let Some(begins) = &self.begins else {
+            return Ok(None);
+        };
+        let found = begins.ninja_deps().named_among(&self.rt, output, wanted)?;
+        if found.len() == 0 {
+            return Ok(None);
+        }
+        Ok(if_askable(found))
+    }
+
+    /// Returns the paths that ninja's record names for an output, if it counts, and that may be in a set. Returns None
+    /// if it names none.
+    fn foreign_paths(
+        &self,
+        output: &[u8],
+        wanted: &PathFilter,
+        is_recorded: bool,
+    ) -> Result<Option<RowList<u8>>, DeviceFault>
+        ensures { IfOk result (λ found. IfSome found (λ paths. AreAskable paths)) }
+    {
+        if self.counts_for_ninja(output, is_recorded)? {
+            return self.named_by_ninja(output, wanted);
+        }
+        Ok(None)
+    }
+
     /// Appends a start entry for the path of a depfile that was read, unless it has an entry. If that fails, the edge
     /// that has it runs once more.
     fn mark_read(&self, path: &[u8]) {
@@ -907,6 +958,21 @@ where
     ) -> Result<Option<RowList<u8>>, AllocError> {
         match self.last_begun_among(alloc, output, wanted) {
             Ok(kept) => Ok(kept),
+            Err(DeviceFault::Memory) => Err(AllocError),
+            Err(_) => Ok(None),
+        }
+    }
+
+    /// The other record is that of ninja, by the stricter rule.
+    fn foreign_among(
+        &self,
+        _alloc: Global,
+        output: &[u8],
+        wanted: &PathFilter,
+        is_recorded: bool,
+    ) -> Result<Option<RowList<u8>>, AllocError> {
+        match self.foreign_paths(output, wanted, is_recorded) {
+            Ok(named) => Ok(named),
             Err(DeviceFault::Memory) => Err(AllocError),
             Err(_) => Ok(None),
         }

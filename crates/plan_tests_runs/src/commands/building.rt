@@ -1,6 +1,8 @@
 //! Builds of manifests in memory. In most worlds here, the edge that builds the manifest is out of date `rounds` times.
 
-use crate::commands::fakes::{Failing, Generator, Listening, Reads, Settled, Touched, Versions};
+use crate::commands::fakes::{
+    Failing, Generator, Listening, ReadBy, Reads, Settled, Touched, Versions,
+};
 use plan_commands::{Done, Listed, Order, Printer, do_build, do_dry_build};
 use plan_lanes::World;
 use plan_machine::Options;
@@ -279,13 +281,14 @@ fn other_command_is_run(rt: HostRuntime) -> Result<(), Fail> {
     Ok(())
 }
 
-/// Checks that an edge waits for the edge that makes a path which its last command read, by its entry or its depfile.
+/// Checks that an edge waits for the edge that makes a path which its last command read: by its entry, by its depfile,
+/// or by the record of another builder.
 #[test]
 fn recorded_path_is_waited_for(rt: HostRuntime) -> Result<(), Fail> {
-    for is_recorded in [true, false] {
+    for by in [ReadBy::Entry, ReadBy::Depfile, ReadBy::AnotherRecord] {
         let world = Reads {
             alloc: rt.alloc(),
-            is_recorded,
+            by,
         };
         let (text, done) = built(&rt, &[WITH_HEADER], &[b"out"], &world)?;
         assert_eq!(rt;
@@ -302,7 +305,7 @@ fn recorded_path_is_waited_for(rt: HostRuntime) -> Result<(), Fail> {
 fn recorded_cycle_is_left_out(rt: HostRuntime) -> Result<(), Fail> {
     let world = Reads {
         alloc: rt.alloc(),
-        is_recorded: true,
+        by: ReadBy::Entry,
     };
     let (text, done) = built(&rt, &[WITH_CYCLE], &[b"h"], &world)?;
     assert_eq!(rt;

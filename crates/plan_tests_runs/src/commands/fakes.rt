@@ -4,7 +4,7 @@ use plan_depfile::Parsed;
 use plan_lanes::{KeepOrder, Permit, World};
 use plan_machine::{Depfile, Recorded, Reply};
 use plan_scope::{Source, SourceFault};
-use plan_text::{GhostCounter, RowList, Sink, SinkFault};
+use plan_text::{GhostCounter, PathFilter, RowList, Sink, SinkFault};
 use plan_verify::{PathList, Words};
 use std::alloc::{AllocError, Global};
 use std::sync::atomic::{AtomicU64, Ordering};
@@ -301,21 +301,31 @@ impl World for Touched {
     }
 }
 
-/// A world in which no output exists, and the command of `out` read `h` when it ran last, by its entry or, if it has
-/// none, by its depfile. Commands succeed.
+/// What says which paths the last command of an edge read.
+#[derive(Clone, Copy, PartialEq, Eq)]
+pub enum ReadBy {
+    /// Its entry.
+    Entry,
+    /// Its depfile. It has no entry.
+    Depfile,
+    /// The record of another builder. It has neither an entry nor a depfile.
+    AnotherRecord,
+}
+
+/// A world in which no output exists, and the command of `out` read `in` and `h` when it ran last. Commands succeed.
 #[derive(Drop)]
 pub struct Reads {
     pub alloc: Global,
-    pub is_recorded: bool,
+    pub by: ReadBy,
 }
 
 impl Reads {
     /// Returns the paths that the command of `out` read.
-    fn paths(&self) -> Result<PathList, AllocError> {
+    fn paths(&self) -> Result<RowList<u8>, AllocError> {
         let mut rows = RowList::new(self.alloc);
         rows.push(b"in")?;
         rows.push(b"h")?;
-        PathList::new(self.alloc, rows)
+        Ok(rows)
     }
 }
 
@@ -337,12 +347,26 @@ impl World for Reads {
     }
 
     fn recall(&self, _number: u64, output: &[u8]) -> Result<Reply, AllocError> {
-        if !self.is_recorded || output != b"out".as_slice() {
+        if self.by != ReadBy::Entry || output != b"out".as_slice() {
             return Ok(Reply::Nothing);
         }
         let command = Words::of(self.alloc, b"cc in -o out".as_slice())?;
-        let recorded = Recorded::new(self.alloc, command, 7, self.paths()?)?;
+        let paths = PathList::new(self.alloc, self.paths()?)?;
+        let recorded = Recorded::new(self.alloc, command, 7, paths)?;
         Ok(Reply::Entry(recorded))
+    }
+
+    fn foreign_among(
+        &self,
+        _alloc: Global,
+        output: &[u8],
+        _wanted: &PathFilter,
+        is_recorded: bool,
+    ) -> Result<Option<RowList<u8>>, AllocError> {
+        if is_recorded || self.by != ReadBy::AnotherRecord || output != b"out".as_slice() {
+            return Ok(None);
+        }
+        Ok(Some(self.paths()?))
     }
 
     fn run(
@@ -356,6 +380,9 @@ impl World for Reads {
     }
 
     fn read_depfile(&self, _number: u64, _path: &[u8]) -> Result<Reply, AllocError> {
+        if self.by == ReadBy::AnotherRecord {
+            return Ok(Reply::Nothing);
+        }
         let bytes = Vec::from_slice(self.alloc, b"out: in h\n")?;
         match Parsed::of(self.alloc, bytes) {
             Ok(parsed) => Ok(Reply::Bytes(Depfile::new(self.alloc, parsed)?)),

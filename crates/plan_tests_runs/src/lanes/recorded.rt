@@ -9,8 +9,8 @@ use std::alloc::{AllocError, Global};
 use std::process::Abort;
 use std::test::*;
 
-/// A world with an entry of the output `out`, which names `a` and `b`, and one of `alone`, which names nothing. Its
-/// record has the stamp 7. Each output was last made by the edge of `out`. An entry can be ended only without a reason.
+/// A world with an entry of the output `out`, which names `a` and `b`, and one of `alone`, which names nothing. Another
+/// builder recorded `c` for the output `out`, later. Its record has the stamp 7. Each output was last made by the edge of `out`. An entry can be ended only without a reason.
 /// The first command began at 9, it is 11 now, and there is one folder, `a`.
 #[derive(Drop)]
 struct Remembers {
@@ -53,6 +53,21 @@ impl World for Remembers {
             return entry_of(self.alloc, &[]);
         }
         Ok(Reply::Nothing)
+    }
+
+    fn foreign_among(
+        &self,
+        alloc: Global,
+        output: &[u8],
+        wanted: &PathFilter,
+        is_recorded: bool,
+    ) -> Result<Option<RowList<u8>>, AllocError> {
+        if !is_recorded || output != b"out".as_slice() || !wanted.may_have(b"c") {
+            return Ok(None);
+        }
+        let mut paths = RowList::new(alloc);
+        paths.push(b"c")?;
+        Ok(Some(paths))
     }
 
     fn record_stamp(&self) -> Option<u64> {
@@ -118,13 +133,35 @@ fn finds_recorded<W: World>(rt: &impl Abort, alloc: Global, world: &W) -> Result
     Ok(())
 }
 
-/// Checks that a world finds the recorded path `b`, and says the rest that `Remembers` says of its record.
+/// Checks that a world finds the path `c` that another builder recorded for the output `out`, and none elsewhere.
+fn finds_foreign<W: World>(rt: &impl Abort, alloc: Global, world: &W) -> Result<(), AllocError> {
+    let mut wanted = PathFilter::new(alloc, 1)?;
+    assert!(rt; world.foreign_among(alloc, b"out", &wanted, true)?.is_none());
+    wanted.add(b"c");
+    match world.foreign_among(alloc, b"out", &wanted, true)? {
+        Some(found) => {
+            assert_eq!(rt; found.len(), 1);
+            assert_eq!(rt; found.row(0), b"c".as_slice());
+        }
+        None => panic!(rt; "no other record"),
+    }
+    assert!(rt;
+        world
+            .foreign_among(alloc, b"out", &wanted, false)?
+            .is_none()
+    );
+    assert!(rt; world.foreign_among(alloc, b"b", &wanted, true)?.is_none());
+    Ok(())
+}
+
+/// Checks that a world finds the recorded paths `b` and `c`, and says the rest that `Remembers` says of its record.
 fn says_what_is_recorded<W: World>(
     rt: &impl Abort,
     alloc: Global,
     world: &W,
 ) -> Result<(), AllocError> {
     finds_recorded(rt, alloc, world)?;
+    finds_foreign(rt, alloc, world)?;
     assert_eq!(rt; world.record_stamp(), Some(7));
     assert_eq!(rt; world.first_begin(), Some(9));
     assert_eq!(rt; world.now(), Some(11));

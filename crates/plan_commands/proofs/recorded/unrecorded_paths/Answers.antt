@@ -1,7 +1,6 @@
 use Rattle.std.proofs.Common.{List, Option, ℕ, subst}
 use Rattle.std.specs.Prelude.{IfSome}
 use Rattle.plan_lanes.specs.Recalled.{RecallsAmong}
-use Rattle.plan_commands.specs.Recorded.{name_of}
 use Rattle.plan_commands.proofs.RecordedLemmas.{names_both}
 use Rattle.plan_commands.proofs.recorded.unrecorded_paths.Goals as goal
 
