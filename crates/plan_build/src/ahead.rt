@@ -9,7 +9,7 @@ use crate::refusal::refuse_record;
 use crate::watched_screen::WriteWatcher;
 use crate::words::manifest_in;
 use plan_lanes::World;
-use plan_options::CommandLine;
+use plan_options::{CommandLine, Mode};
 use plan_progress::{Outputs, Stopwatch};
 use plan_record::Entry;
 use plan_scope::Source;
@@ -110,20 +110,21 @@ impl<
     /// the record can't be used, reports that when the build has ended. Returns the exit status.
     pub fn build_looking_ahead<S: Source>(
         &self,
+        mode: Mode,
         source: &mut S,
         line: &CommandLine,
         jobs: u16,
         threads: usize,
     ) -> u8
-        ensures { SaysBuilt S.gives S.fails source.old (as_build H H.taken H.showed (display_in line.now self.now.on_terminal self.now.colours self.now.template.now self.now.width)) (λ _ question reply. AllowsOnce W.allows question reply) line.now jobs result }
+        ensures { SaysBuilt mode S.gives S.fails source.old (as_build H H.taken H.showed (display_in line.now self.now.on_terminal self.now.colours self.now.template.now self.now.width)) (λ _ question reply. AllowsOnce W.allows question reply) line.now jobs result }
     {
         let (status, read) = while_looking_ahead(
             self.rt,
             self.world,
             threads,
             || -> u8
-                ensures { SaysBuilt S.gives S.fails source.entry.now (as_build H H.taken H.showed (display_in line.entry.now self.entry.now.on_terminal self.entry.now.colours self.entry.now.template.now self.entry.now.width)) (λ _ question reply. AllowsOnce W.allows question reply) line.entry.now jobs result }
-            { self.build_line(source, line, jobs) },
+                ensures { SaysBuilt mode S.gives S.fails source.entry.now (as_build H H.taken H.showed (display_in line.entry.now self.entry.now.on_terminal self.entry.now.colours self.entry.now.template.now self.entry.now.width)) (λ _ question reply. AllowsOnce W.allows question reply) line.entry.now jobs result }
+            { self.build_line(mode, source, line, jobs) },
         );
         match read {
             Ok(()) => status,

@@ -1,13 +1,13 @@
 //! The build that a command line asks for.
 
-ghost use Rattle.std.specs.Prelude.{◌≡◌, IfErr, IfOk, IfSome, Ok, false, map};
+ghost use Rattle.std.specs.Prelude.{◌≡◌, IfErr, IfOk, IfSome, Ok, map};
 ghost use Rattle.plan_scope.specs.Sources.{SameFiles};
-ghost use Rattle.plan_options.specs.Saying.{is_dry_run};
+ghost use Rattle.plan_options.specs.declared.command.Mode.TheVariants as mode;
 ghost use Rattle.plan_commands.specs.Building.{asked, exit_status};
 ghost use Rattle.plan_commands.specs.declared.building.Done.{Done};
 ghost use Rattle.plan_progress.specs.BuildLines.{look_of};
 ghost use Rattle.plan_build.specs.Statuses as statuses;
-ghost use Rattle.plan_build.specs.Statuses.{BuiltNamed, Ended, HasUnknownTarget, SaysBuilt, as_build, display_in};
+ghost use Rattle.plan_build.specs.Statuses.{BuiltNamed, Ended, HasUnknownTarget, SaysBuilt, SaysExplained, as_build, display_in};
 
 use crate::ending::{NOTHING, Tally, end_build, may_run_others, no_work, note_restat, tally_of};
 use crate::record_place::RecordPlace;
@@ -18,7 +18,7 @@ use plan_build_tools::{named_in, slices_of};
 use plan_commands::{Done, Listed, Order, Printer, do_build, do_dry_build};
 use plan_lanes::{Observing, World};
 use plan_machine::Options;
-use plan_options::CommandLine;
+use plan_options::{CommandLine, Mode};
 use plan_printing::{PlanFault, no_memory};
 use plan_progress::{BuildLines, Counts, Display, Outputs, Stopwatch};
 use plan_scope::Source;
@@ -154,9 +154,9 @@ impl<
     ) -> (Result<Done, PlanFault>, Tally)
         ensures same { SameFiles (S.gives source.new) (S.fails source.new) (S.gives source.old) (S.fails source.old) }
         ensures done { let a = asked (statuses.manifest_in line.now) options (map (λ n. n.now) targets.now) in
-            IfOk result.0 (λ done. Ended (S.gives source.old) (as_build H H.taken H.showed (display_in line.now self.now.on_terminal self.now.colours self.now.template.now self.now.width)) W.allows a done) }
+            IfOk result.0 (λ done. Ended mode.Real (S.gives source.old) (as_build H H.taken H.showed (display_in line.now self.now.on_terminal self.now.colours self.now.template.now self.now.width)) W.allows a done) }
         ensures unknown { let a = asked (statuses.manifest_in line.now) options (map (λ n. n.now) targets.now) in
-            IfErr result.0 (λ fault. fault.number ≡ 132 → HasUnknownTarget (S.gives source.old) (S.fails source.old) (as_build H H.taken H.showed (display_in line.now self.now.on_terminal self.now.colours self.now.template.now self.now.width)) W.allows a) }
+            IfErr result.0 (λ fault. fault.number ≡ 132 → HasUnknownTarget mode.Real (S.gives source.old) (S.fails source.old) (as_build H H.taken H.showed (display_in line.now self.now.on_terminal self.now.colours self.now.template.now self.now.width)) W.allows a) }
     {
         let (rt, alloc) = (self.rt, self.rt.alloc());
         let order = Order {
@@ -188,7 +188,13 @@ impl<
         line: &CommandLine,
         options: Options,
         targets: &[&[u8]],
-    ) -> (Result<Done, PlanFault>, Tally) {
+    ) -> (Result<Done, PlanFault>, Tally)
+        ensures same { SameFiles (S.gives source.new) (S.fails source.new) (S.gives source.old) (S.fails source.old) }
+        ensures done { let a = asked (statuses.manifest_in line.now) options (map (λ n. n.now) targets.now) in
+            IfOk result.0 (λ done. Ended mode.Dry (S.gives source.old) (as_build H H.taken H.showed (display_in line.now self.now.on_terminal self.now.colours self.now.template.now self.now.width)) W.allows a done) }
+        ensures unknown { let a = asked (statuses.manifest_in line.now) options (map (λ n. n.now) targets.now) in
+            IfErr result.0 (λ fault. fault.number ≡ 132 → HasUnknownTarget mode.Dry (S.gives source.old) (S.fails source.old) (as_build H H.taken H.showed (display_in line.now self.now.on_terminal self.now.colours self.now.template.now self.now.width)) W.allows a) }
+    {
         let (rt, alloc) = (self.rt, self.rt.alloc());
         let order = Order {
             manifest: manifest_in(line),
@@ -212,25 +218,25 @@ impl<
         (done, tally_of(counts))
     }
 
-    /// Builds targets, or with `-n` prints the commands that would run. Also returns how many edges failed, and how
-    /// many were tried.
+    /// Builds targets, or prints the commands that would run. Also returns how many edges failed, and how many were
+    /// tried.
     fn build<S: Source>(
         &self,
+        mode: Mode,
         source: &mut S,
         line: &CommandLine,
         options: Options,
         targets: &[&[u8]],
     ) -> (Result<Done, PlanFault>, Tally)
-        ensures same { is_dry_run line.now ≡ false → SameFiles (S.gives source.new) (S.fails source.new) (S.gives source.old) (S.fails source.old) }
+        ensures same { SameFiles (S.gives source.new) (S.fails source.new) (S.gives source.old) (S.fails source.old) }
         ensures done { let a = asked (statuses.manifest_in line.now) options (map (λ n. n.now) targets.now) in
-            is_dry_run line.now ≡ false → IfOk result.0 (λ done. Ended (S.gives source.old) (as_build H H.taken H.showed (display_in line.now self.now.on_terminal self.now.colours self.now.template.now self.now.width)) W.allows a done) }
+            IfOk result.0 (λ done. Ended mode (S.gives source.old) (as_build H H.taken H.showed (display_in line.now self.now.on_terminal self.now.colours self.now.template.now self.now.width)) W.allows a done) }
         ensures unknown { let a = asked (statuses.manifest_in line.now) options (map (λ n. n.now) targets.now) in
-            is_dry_run line.now ≡ false → IfErr result.0 (λ fault. fault.number ≡ 132 → HasUnknownTarget (S.gives source.old) (S.fails source.old) (as_build H H.taken H.showed (display_in line.now self.now.on_terminal self.now.colours self.now.template.now self.now.width)) W.allows a) }
+            IfErr result.0 (λ fault. fault.number ≡ 132 → HasUnknownTarget mode (S.gives source.old) (S.fails source.old) (as_build H H.taken H.showed (display_in line.now self.now.on_terminal self.now.colours self.now.template.now self.now.width)) W.allows a) }
     {
-        if line.is_dry_run() {
-            self.preview(source, line, options, targets)
-        } else {
-            self.run(source, line, options, targets)
+        match mode {
+            Mode::Real => self.run(source, line, options, targets),
+            Mode::Dry => self.preview(source, line, options, targets),
         }
     }
 
@@ -257,12 +263,13 @@ impl<
     /// a source, or a path not in canonical form. Sources that exist are up to date. Returns the exit status.
     fn build_named<S: Source>(
         &self,
+        mode: Mode,
         source: &mut S,
         line: &CommandLine,
         options: Options,
         words: &[&[u8]],
     ) -> u8
-        ensures { result ≡ 0 → is_dry_run line.now ≡ false → BuiltNamed S.gives S.fails source.old (as_build H H.taken H.showed (display_in line.now self.now.on_terminal self.now.colours self.now.template.now self.now.width)) W.allows (statuses.manifest_in line.now) options (map (λ w. w.now) words.now) }
+        ensures { result ≡ 0 → BuiltNamed mode S.gives S.fails source.old (as_build H H.taken H.showed (display_in line.now self.now.on_terminal self.now.colours self.now.template.now self.now.width)) W.allows (statuses.manifest_in line.now) options (map (λ w. w.now) words.now) }
     {
         let alloc = self.rt.alloc();
         let paths = match named_in(self.rt, source, manifest_in(line), words) {
@@ -274,7 +281,7 @@ impl<
         }
         match slices_of(alloc, &paths) {
             Ok(targets) => {
-                let (done, tally) = self.build(source, line, options, &targets);
+                let (done, tally) = self.build(mode, source, line, options, &targets);
                 self.end(line, done, tally)
             }
             Err(_) => self.end(line, Err(no_memory(alloc)), NOTHING),
@@ -283,16 +290,25 @@ impl<
 
     /// Builds like `build_line`, and shows before each command why it runs. To do so, observes edges.
     /// Returns the exit status.
-    pub fn build_explained<S: Source>(&self, source: &mut S, line: &CommandLine, jobs: u16) -> u8
-        ensures { SaysBuilt S.gives S.fails source.old (as_build H H.taken H.showed (display_in line.now self.now.on_terminal self.now.colours self.now.template.now self.now.width)) W.allows line.now jobs result }
+    pub fn build_explained<S: Source>(
+        &self,
+        mode: Mode,
+        source: &mut S,
+        line: &CommandLine,
+        jobs: u16,
+    ) -> u8
+        ensures { SaysBuilt mode S.gives S.fails source.old (as_build H H.taken H.showed (display_in line.now self.now.on_terminal self.now.colours self.now.template.now self.now.width)) W.allows line.now jobs result }
     {
         let observing = Observing::new(self.world);
-        self.in_world(&observing).build_line(source, line, jobs)
+        self.in_world(&observing)
+            .build_line(mode, source, line, jobs)
     }
 
     /// Prints which commands would run for the targets that are the words of a tool, but runs none. If there are no
     /// words, the targets are the defaults. Returns the exit status.
-    fn preview_words<S: Source>(&self, source: &mut S, line: &CommandLine, jobs: u16) -> u8 {
+    fn preview_words<S: Source>(&self, source: &mut S, line: &CommandLine, jobs: u16) -> u8
+        ensures { SaysExplained (S.gives source.old) (as_build H H.taken H.showed (display_in line.now self.now.on_terminal self.now.colours self.now.template.now self.now.width)) W.allows line.now jobs result }
+    {
         let alloc = self.rt.alloc();
         let (Some(options), Ok(targets)) = (options_in(line, jobs), line.tool_words(alloc)) else {
             return self.end(line, Err(no_memory(alloc)), NOTHING);
@@ -302,24 +318,32 @@ impl<
     }
 
     /// Prints which commands would run for the words of a tool, like `preview_words`, and why. Returns the exit status.
-    pub fn explain<S: Source>(&self, source: &mut S, line: &CommandLine, jobs: u16) -> u8 {
+    pub fn explain<S: Source>(&self, source: &mut S, line: &CommandLine, jobs: u16) -> u8
+        ensures { SaysExplained (S.gives source.old) (as_build H H.taken H.showed (display_in line.now self.now.on_terminal self.now.colours self.now.template.now self.now.width)) W.allows line.now jobs result }
+    {
         let observing = Observing::new(self.world);
         self.in_world(&observing).preview_words(source, line, jobs)
     }
 
-    /// Builds the targets of a command line. Reads the manifest from a source. At most `jobs` commands run at once if
+    /// Builds the targets of a command line, or prints the commands that would run. Reads the manifest from a source. At most `jobs` commands run at once if
     /// `-j` isn't given. Returns the exit status.
-    pub fn build_line<S: Source>(&self, source: &mut S, line: &CommandLine, jobs: u16) -> u8
-        ensures { SaysBuilt S.gives S.fails source.old (as_build H H.taken H.showed (display_in line.now self.now.on_terminal self.now.colours self.now.template.now self.now.width)) W.allows line.now jobs result }
+    pub fn build_line<S: Source>(
+        &self,
+        mode: Mode,
+        source: &mut S,
+        line: &CommandLine,
+        jobs: u16,
+    ) -> u8
+        ensures { SaysBuilt mode S.gives S.fails source.old (as_build H H.taken H.showed (display_in line.now self.now.on_terminal self.now.colours self.now.template.now self.now.width)) W.allows line.now jobs result }
     {
         let alloc = self.rt.alloc();
         let (Some(options), Ok(targets)) = (options_in(line, jobs), line.targets(alloc)) else {
             return self.end(line, Err(no_memory(alloc)), NOTHING);
         };
-        let (done, tally) = self.build(source, line, options, &targets);
+        let (done, tally) = self.build(mode, source, line, options, &targets);
         match done {
             Err(fault) if fault.number == UNKNOWN_TARGET => {
-                self.build_named(source, line, options, &targets)
+                self.build_named(mode, source, line, options, &targets)
             }
             done => self.end(line, done, tally),
         }

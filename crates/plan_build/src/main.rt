@@ -2,11 +2,9 @@
 //! that it depends on do the work.
 #![tactic(auto)]
 
-ghost use Rattle.std.specs.Prelude.{◌≡◌, None, false};
-ghost use Rattle.plan_options.specs.Saying.{last_value};
-ghost use Rattle.plan_options.specs.declared.argument.Setting.TheVariants as setting;
+ghost use Rattle.plan_options.specs.Commands.{asks_in};
 ghost use Rattle.plan_stamps.specs.Stamps.{AllowsOnce};
-ghost use Rattle.plan_build.specs.Statuses.{SaysBuilt, as_build, display_in};
+ghost use Rattle.plan_build.specs.Statuses.{Executes, SaysDone, as_build, display_in};
 
 mod ahead;
 mod builddir;
@@ -43,7 +41,7 @@ use crate::words::{
 };
 use plan_build_tools::{BuildFiles, Request, Tool, request_in, run_tool, tool_named, unknown_tool};
 use plan_lanes::World;
-use plan_options::{CommandLine, Setting};
+use plan_options::{Build, Command, CommandLine, Mode, Reasons, Setting};
 use plan_printing::{
     ErrorStream, REFUSED, complain, complain_of, no_memory, open_streams, reason_of_error, say,
 };
@@ -165,7 +163,10 @@ fn place_of<R: Files + Eprint + AllocGlobal, E: Print>(
 
 /// Checks whether a command line asks for no more than which commands would run.
 fn only_reads(line: &CommandLine) -> bool {
-    line.is_dry_run() || asks_for_reasons(line)
+    matches!(
+        line.command(),
+        Command::Build(Build::Explain | Build::Targets(Mode::Dry, _))
+    )
 }
 
 /// Creates the folder of the record, and takes over the record of earlier builds that were in another folder.
@@ -338,16 +339,6 @@ fn use_tool<E: Print>(
     Ok(answer(rt, errors, line, &request))
 }
 
-/// Checks whether a command line asks for the tool that says which commands would run, and why.
-fn asks_for_reasons(line: &CommandLine) -> bool
-    ensures { last_value setting.Tool line.now ≡ None → result ≡ false }
-{
-    match line.value(Setting::Tool) {
-        Some(name) => name == Tool::Explain.name(),
-        None => false,
-    }
-}
-
 /// Checks the words of the tool that explains, and changes to the folder of the build.
 ///
 /// # Errors
@@ -365,30 +356,49 @@ fn check_reasons<E: Print>(rt: &HostRuntime, errors: &E, line: &CommandLine) -> 
 /// Reads the words after the program's name.
 ///
 /// # Errors
-/// The exit status if an argument ends the program or memory runs out. The answer or the reason was printed.
+/// The exit status if memory runs out. That is reported on standard error.
 fn read_line<R: Files + Print + Eprint + Clock + AllocGlobal, E: Print>(
     rt: &R,
     errors: &E,
     words: &[String],
-    jobs: u16,
 ) -> Result<CommandLine, u8> {
     let alloc = rt.alloc();
     let read = match after_name(alloc, words) {
         Ok(after) => CommandLine::read(alloc, &after),
         Err(fault) => Err(fault),
     };
-    let line = match read {
-        Ok(line) => line,
-        Err(_) => return Err(refuse(rt, errors, MANIFEST, &no_memory(alloc))),
-    };
-    if let Some(argument) = line.stop() {
-        return Err(stop_at(rt, errors, name_in(words), jobs, argument));
+    match read {
+        Ok(line) => Ok(line),
+        Err(_) => Err(refuse(rt, errors, MANIFEST, &no_memory(alloc))),
     }
-    Ok(line)
 }
 
-/// Reads the command line. Runs the tool that it names, or else changes to the folder of the build. The tool that
-/// explains is a build that runs no commands.
+/// Does what a command line asks for if that is no build, and otherwise changes to the folder of the build. `name` is the
+/// program's name.
+///
+/// # Errors
+/// The exit status if there is nothing to build.
+fn begin_build<E: Print>(
+    rt: &HostRuntime,
+    errors: &E,
+    name: &[u8],
+    line: &CommandLine,
+    jobs: u16,
+) -> Result<(), u8> {
+    match line.command() {
+        Command::Stop(argument) => Err(stop_at(rt, errors, name, jobs, argument)),
+        Command::Tool(tool) => Err(match use_tool(rt, errors, line, tool) {
+            Ok(status) | Err(status) => status,
+        }),
+        Command::Build(Build::Explain) => check_reasons(rt, errors, line),
+        Command::Build(Build::Targets(_, _)) => {
+            warn(rt.alloc(), errors, line);
+            enter(rt, errors, line)
+        }
+    }
+}
+
+/// Reads the command line, and does what it asks for if that is no build. Otherwise changes to the folder of the build.
 ///
 /// # Errors
 /// The exit status if there is nothing to build.
@@ -400,24 +410,44 @@ fn order_in<E: Print>(rt: &HostRuntime, errors: &E, jobs: u16) -> Result<Command
             return Err(REFUSED);
         }
     };
-    let line = read_line(rt, errors, &words, jobs)?;
-    if asks_for_reasons(&line) {
-        check_reasons(rt, errors, &line)?;
-        return Ok(line);
-    }
-    if let Some(name) = line.value(Setting::Tool) {
-        return Err(match use_tool(rt, errors, &line, name) {
-            Ok(status) | Err(status) => status,
-        });
-    }
-    warn(rt.alloc(), errors, &line);
-    enter(rt, errors, &line)?;
+    let line = read_line(rt, errors, &words)?;
+    begin_build(rt, errors, name_in(&words), &line, jobs)?;
     Ok(line)
 }
 
-/// Explains or builds what a command line asks for, and returns the exit status. If the build is likely to be long,
-/// threads ask for stamps ahead.
-fn build<
+/// Executes a build, and returns the exit status. If the build is likely to be long, threads ask for stamps ahead.
+fn execute_build<
+    R: Threads + Wait + Sync + Files + Print + Eprint + Clock + AllocGlobal,
+    E: Print,
+    W: World + RecordedWorld + Send + Sync,
+    H: Outputs + Stopwatch + WriteWatcher + Sync,
+    S: Source,
+>(
+    builder: &Builder<'_, R, E, StampCache<'_, R, W>, H>,
+    source: &mut S,
+    line: &CommandLine,
+    build: Build,
+    jobs: u16,
+    is_long: bool,
+) -> u8
+    ensures { SaysDone build S.gives S.fails source.old (as_build H H.taken H.showed (display_in line.now builder.now.on_terminal builder.now.colours builder.now.template.now builder.now.width)) (λ _ question reply. AllowsOnce W.allows question reply) line.now jobs result }
+{
+    match build {
+        Build::Explain => builder.explain(source, line, jobs),
+        Build::Targets(mode, Reasons::Shown) => builder.build_explained(mode, source, line, jobs),
+        Build::Targets(mode, Reasons::Hidden) => {
+            if !is_long {
+                return builder.build_line(mode, source, line, jobs);
+            }
+            let threads = threads_ahead(builder.rt, line, line.jobs().unwrap_or(jobs));
+            builder.build_looking_ahead(mode, source, line, jobs, threads)
+        }
+    }
+}
+
+/// Executes the build that a command line asks for, and returns the exit status. Refuses a command line that asks for
+/// something else.
+fn execute<
     R: Threads + Wait + Sync + Files + Print + Eprint + Clock + AllocGlobal,
     E: Print,
     W: World + RecordedWorld + Send + Sync,
@@ -430,17 +460,11 @@ fn build<
     jobs: u16,
     is_long: bool,
 ) -> u8
-    ensures { last_value setting.Tool line.now ≡ None → SaysBuilt S.gives S.fails source.old (as_build H H.taken H.showed (display_in line.now builder.now.on_terminal builder.now.colours builder.now.template.now builder.now.width)) (λ _ question reply. AllowsOnce W.allows question reply) line.now jobs result }
+    ensures { Executes (asks_in line.now) S.gives S.fails source.old (as_build H H.taken H.showed (display_in line.now builder.now.on_terminal builder.now.colours builder.now.template.now builder.now.width)) (λ _ question reply. AllowsOnce W.allows question reply) line.now jobs result }
 {
-    if asks_for_reasons(line) {
-        builder.explain(source, line, jobs)
-    } else if line.is_explained() {
-        builder.build_explained(source, line, jobs)
-    } else if is_long {
-        let threads = threads_ahead(builder.rt, line, line.jobs().unwrap_or(jobs));
-        builder.build_looking_ahead(source, line, jobs, threads)
-    } else {
-        builder.build_line(source, line, jobs)
+    match line.command() {
+        Command::Build(build) => execute_build(builder, source, line, build, jobs, is_long),
+        Command::Stop(_) | Command::Tool(_) => REFUSED,
     }
 }
 
@@ -549,7 +573,7 @@ fn build_in<
         parker,
     );
     let mut manifests = ManifestFiles::new(rt, manifest_in(&order.line), &order.place);
-    build(&builder, &mut manifests, &order.line, order.jobs, is_long)
+    execute(&builder, &mut manifests, &order.line, order.jobs, is_long)
 }
 
 /// Reports that closed streams can't be replaced, and returns the exit code.

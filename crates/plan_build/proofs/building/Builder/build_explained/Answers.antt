@@ -13,4 +13,4 @@ returns g c =
     ∙ ap (λ on. display_in line here.on_terminal on there.template.now there.width) c.in_world.ensures.colours
     ∙ ap (λ text. display_in line here.on_terminal here.colours text there.width) c.in_world.ensures.template
     ∙ ap (λ w. display_in line here.on_terminal here.colours here.template.now w) c.in_world.ensures.width in
-    subst (λ (look : Look). SaysBuilt g.S.Source.gives g.S.Source.fails c.args.source.now (as_build g.row.H.Denot g.H.Outputs.taken g.H.Stopwatch.showed look) g.W.World.allows line c.args.jobs c.build_line.result) same c.build_line.ensures
+    subst (λ (look : Look). SaysBuilt c.args.mode g.S.Source.gives g.S.Source.fails c.args.source.now (as_build g.row.H.Denot g.H.Outputs.taken g.H.Stopwatch.showed look) g.W.World.allows line c.args.jobs c.build_line.result) same c.build_line.ensures
