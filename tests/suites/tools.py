@@ -368,7 +368,7 @@ def told_by(builder: str, words: str, folder: pathlib.Path) -> Told:
     programs.write(FILES, folder)
     done = programs.run([builder, *shlex.split(words)], folder)
     printed = done.stdout.decode().replace(str(folder.resolve()), "FOLDER")
-    removed = [name for name in MADE if not (folder / name).exists()]
+    removed = [name for name in FILES if not (folder / name).exists()]
     return Told(done.returncode, printed, done.stderr.decode(), " ".join(removed))
 
 

@@ -1,6 +1,8 @@
 //! The files of the system.
 
 use super::*;
+use std::fs::Metadata;
+use std::os::unix::fs::MetadataExt;
 
 /// Checks that these are the first bytes of a file, at most `most`.
 fn reads<D: Disk>(rt: &impl Abort, disk: &D, path: &str, most: usize, bytes: &[u8]) {
@@ -16,7 +18,19 @@ fn is_missing<D: Disk>(rt: &impl Abort, disk: &D, path: &str) {
     assert!(rt; disk.modified(path).is_err());
 }
 
-/// Checks that the bytes of a file are read up to a limit, that it has a time, and that another path has no file.
+/// Checks that the time of a file is the one that the system has for it.
+fn has_its_time<D: Disk>(rt: &impl Abort, disk: &D, path: &str, found: &Metadata) {
+    match disk.modified(path) {
+        Ok(time) => {
+            assert_eq!(rt; time.seconds, found.mtime());
+            assert_eq!(rt; time.nanoseconds, found.mtime_nsec());
+            assert!(rt; time.seconds > 1);
+        }
+        Err(_) => panic!(rt; "no time of {path}"),
+    }
+}
+
+/// Checks that the bytes of a file are read up to a limit, that it has its time, and that another path has no file.
 #[test]
 fn files_of_the_system(rt: HostRuntime) -> Result<(), Fail> {
     let folder = folder(&rt, "disk")?;
@@ -26,7 +40,8 @@ fn files_of_the_system(rt: HostRuntime) -> Result<(), Fail> {
     let disk = SystemDisk::new(rt.clone()?);
     reads(&rt, &disk, path.as_str(), 4, b"abc");
     reads(&rt, &disk, path.as_str(), 2, b"ab");
-    assert!(rt; disk.modified(path.as_str()).is_ok());
+    let found = fs::metadata(&rt, path.as_str())?;
+    has_its_time(&rt, &disk, path.as_str(), &found);
     is_missing(&rt, &disk, other.as_str());
     drop(disk);
     remove(&rt, folder);
