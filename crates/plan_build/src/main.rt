@@ -139,7 +139,7 @@ fn missing<R: Files>(rt: &R, manifest: &[u8]) -> Option<ErrorKind> {
 /// The world of real files and commands.
 type SystemWorld<'a> = RealWorld<
     HostRuntime,
-    BuildShells<'a, HostRuntime, SystemShells<HostRuntime>>,
+    BuildShells<'a, HostRuntime, SystemShells<HostRuntime>, Watcher<'a, HostRuntime>>,
     SystemDisk<HostRuntime>,
 >;
 
@@ -197,7 +197,7 @@ fn open_world<'a, E: Print>(
     line: &CommandLine,
     place: &RecordPlace,
     outputs: &'a HeldOutputs<'a, HostRuntime>,
-    watcher: &'a Watcher,
+    watcher: &'a Watcher<'a, HostRuntime>,
 ) -> Result<SystemWorld<'a>, u8> {
     let alloc = rt.alloc();
     let manifest = manifest_in(line);
@@ -600,7 +600,7 @@ fn main(rt: HostRuntime) -> ExitCode {
     };
     let (line, place) = (&order.line, &order.place);
     let outputs = HeldOutputs::new(rt.alloc(), &rt);
-    let watcher = Watcher::new();
+    let watcher = Watcher::new(&rt);
     let world = match open_world(&rt, &errors, line, place, &outputs, &watcher) {
         Ok(world) => world,
         Err(status) => return ExitCode::from(status),
@@ -615,7 +615,7 @@ fn main(rt: HostRuntime) -> ExitCode {
     let status = build_in(
         &rt, &errors, &world, &order, &outputs, screen, parker, is_long,
     );
-    watcher.end(&rt);
+    watcher.end();
     inner.release();
     // The system frees its memory sooner than this program would.
     forget(world);

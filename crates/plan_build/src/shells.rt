@@ -1,22 +1,22 @@
 //! The shells of a build, and how the outputs of their commands are shown.
 
 use crate::held_outputs::HeldOutputs;
-use crate::watcher::Watcher;
+use crate::watcher::ShellWatcher;
 use plan_output::{shown_output, signal_line};
 use plan_printing::concatenate;
 use plan_world::{PermittedShell, Printed, Shells};
 use std::alloc::{AllocError, Global};
 use std::io::{self, ErrorKind, IsTerminal};
 use std::os::unix::process::ExitStatusExt;
-use std::process::{ExitStatus, Processes};
-use std::rt::{Clock, Env, Files};
+use std::process::ExitStatus;
+use std::rt::{Clock, Env};
 use std::sync::Wait;
 use std::{env, str};
 
-/// The shells of a build, over other shells, which start them. The output of a command is held until its mark is shown.
-/// If escape sequences aren't wanted, they are removed from the output.
+/// The shells of a build, over other shells, which start them. These can start no process by themselves. The output of a
+/// command is held until its mark is shown. If escape sequences aren't wanted, they are removed from the output.
 #[derive(Drop)]
-pub struct BuildShells<'a, R, S> {
+pub struct BuildShells<'a, R, S, C> {
     alloc: Global,
     rt: &'a R,
     shells: S,
@@ -24,13 +24,13 @@ pub struct BuildShells<'a, R, S> {
     escapes: bool,
     /// Whether standard output and standard error are the same kind of terminal, on which lines are written over.
     clears: bool,
-    /// Stops commands if this builder ends early.
-    watcher: &'a Watcher,
+    /// Is told of each shell before it starts.
+    watcher: &'a C,
 }
 
-impl<'a, R, S> BuildShells<'a, R, S> {
+impl<'a, R, S, C> BuildShells<'a, R, S, C> {
     /// Creates the shells of a build over other shells. The outputs of commands go into `outputs`. If `escapes` is
-    /// false, removes escape sequences. `watcher` begins with the first command.
+    /// false, removes escape sequences. `watcher` is told of each shell before it starts.
     pub fn new(
         alloc: Global,
         rt: &'a R,
@@ -38,8 +38,8 @@ impl<'a, R, S> BuildShells<'a, R, S> {
         outputs: &'a HeldOutputs<'a, R>,
         escapes: bool,
         clears: bool,
-        watcher: &'a Watcher,
-    ) -> BuildShells<'a, R, S> {
+        watcher: &'a C,
+    ) -> BuildShells<'a, R, S, C> {
         BuildShells {
             alloc,
             rt,
@@ -60,7 +60,7 @@ fn add_signal(text: &mut Vec<u8>, status: &ExitStatus) -> Result<(), AllocError>
     }
 }
 
-impl<R: Wait + Clock, S> BuildShells<'_, R, S> {
+impl<R: Wait + Clock, S, C> BuildShells<'_, R, S, C> {
     /// Checks that a command may begin: somebody may read standard output. If nobody does, the build stops as it does
     /// after a failed command.
     ///
@@ -92,8 +92,7 @@ fn explanation(
     )
 }
 
-impl<R: Processes + Files + Wait + Clock + Eprint + AllocGlobal, S: Shells> Shells
-    for BuildShells<'_, R, S> {
+impl<R: Wait + Clock + Eprint, S: Shells, C: ShellWatcher> Shells for BuildShells<'_, R, S, C> {
     ghost ended = { S.ended };
 
     fn explain(&self, edge: &[u8], reason: &[u8]) {
@@ -105,7 +104,7 @@ impl<R: Processes + Files + Wait + Clock + Eprint + AllocGlobal, S: Shells> Shel
 
     fn output(&self, shell: PermittedShell, edge: &[u8]) -> io::Result<Printed> {
         self.check_output()?;
-        self.watcher.begin(self.rt, shell.shell());
+        self.watcher.begin(shell.shell());
         let Printed { status, text } = self.shells.output(shell, edge)?;
         let mut text = shown_output(self.alloc, text, self.escapes)?;
         add_signal(&mut text, &status)?;
@@ -131,7 +130,7 @@ impl<R: Processes + Files + Wait + Clock + Eprint + AllocGlobal, S: Shells> Shel
 
     fn status(&self, shell: PermittedShell) -> io::Result<ExitStatus> {
         self.check_output()?;
-        self.watcher.begin(self.rt, shell.shell());
+        self.watcher.begin(shell.shell());
         self.shells.status(shell)
     }
 }

@@ -29,9 +29,17 @@ enum Watch {
     Missing,
 }
 
+/// Is told of each shell before it starts. The shells of a build reach what it does only by this trait, so they can't
+/// start a process of their own.
+pub trait ShellWatcher {
+    /// Notes that this shell is about to start.
+    fn begin(&self, shell: &Command);
+}
+
 /// Starts the process that waits before the first command begins.
 #[derive(Drop)]
-pub struct Watcher {
+pub struct Watcher<'a, R> {
+    rt: &'a R,
     watch: Mutex<Watch>,
 }
 
@@ -86,28 +94,33 @@ fn start<R: Processes + Files + AllocGlobal>(rt: &R, name: &str) -> io::Result<P
     Ok(writer)
 }
 
-impl Watcher {
+impl<'a, R> Watcher<'a, R> {
     /// Returns a watcher that has started no process.
-    pub fn new() -> Watcher {
+    pub fn new(rt: &'a R) -> Watcher<'a, R> {
         Watcher {
+            rt,
             watch: Mutex::new(Watch::Idle),
         }
     }
+}
 
-    /// Starts the process before the first command begins. `shell` is the shell of the command.
-    pub fn begin<R: Processes + Files + Wait + AllocGlobal>(&self, rt: &R, shell: &Command) {
-        let mut watch = self.watch.lock(rt);
+impl<R: Processes + Files + Wait + AllocGlobal> ShellWatcher for Watcher<'_, R> {
+    /// Starts the process before the first command begins.
+    fn begin(&self, shell: &Command) {
+        let mut watch = self.watch.lock(self.rt);
         if let Watch::Idle = *watch {
             *watch = match names_in(shell) {
-                Some(names) => started(rt, last_name(names)),
+                Some(names) => started(self.rt, last_name(names)),
                 None => Watch::Missing,
             };
         }
     }
+}
 
+impl<R: Wait> Watcher<'_, R> {
     /// Ends the process, since all commands have ended.
-    pub fn end<R: Wait>(&self, rt: &R) {
-        let mut watch = self.watch.lock(rt);
+    pub fn end(&self) {
+        let mut watch = self.watch.lock(self.rt);
         if let Watch::Waiting(writer) = &mut *watch {
             let _ = writer.write_all(b"\n");
         }
