@@ -23,7 +23,7 @@ from typing import Callable, List, Tuple
 from lib import programs, records
 from lib.place import Place, expect
 from lib.suite import PATIENCE, Case, LeftOut, Setting, check, until
-from suites.foreign import mixed_edges, mixed_text, ninja
+from suites.foreign import WORDS, mixed_edges, mixed_text, ninja
 from suites.progress import TICK, Edge, says
 
 NOTHING = ("ninja: no work to do.\n", "", 0)
@@ -341,16 +341,17 @@ def mixed(count: int, seed: int, builder: str, folder: pathlib.Path) -> None:
     """Both programs build in turns, after random edits of sources, command lines and `builddir`."""
     programs_ = (builder, ninja())
     any_ = random.Random(seed)
-    words, names, front = ["a"] * 4, ["h0", "h1"], "builddir = b\n"
+    words, names, front = ["a"] * WORDS, ["h0", "h1"], "builddir = b\n"
     for name in ("i0", "i1", "i2", "h0", "h1"):
         (folder / name).write_text("0\n")
-    (folder / "which").write_text("h0\n")
+    for name in ("which", "other"):
+        (folder / name).write_text("h0\n")
     for number in range(count):
         time.sleep(0.02)
         for name in ("i0", "i1", "i2", "h0", "h1"):
             if any_.random() < 0.2:
                 (folder / name).write_text(f"{number // 4}\n")
-        at = any_.randrange(4)
+        at = any_.randrange(WORDS)
         words[at] = any_.choice("ab")
         if any_.random() < 0.2:
             (folder / any_.choice("opredf")).unlink(missing_ok=True)

@@ -1,9 +1,9 @@
 """Changes outputs between two builds in other ways than by the commands of plan_build.
 
 An output that was written after the record belongs to somebody else: a hand, another program, or ninja with other
-command lines. Its command runs in the next build, and the build after that has nothing to do. Generators, folders and
-what `-t restat` took as made are exempt. A generator with a depfile and without an entry runs. If ninja and plan_build
-build one folder in turns, each build is right.
+command lines. Its command runs in the next build, and the build after that has nothing to do. Generators, folders,
+links and what `-t restat` took as made are exempt, but folders and links of edges with `deps` are not. A generator with
+a depfile and without an entry runs. If ninja and plan_build build one folder in turns, each build is right.
 """
 from __future__ import annotations
 
@@ -15,8 +15,8 @@ import random
 import shutil
 import subprocess
 import time
-from collections.abc import Iterator, Sequence
-from typing import Tuple
+from collections.abc import Iterator, Mapping, Sequence
+from typing import NamedTuple, Tuple
 
 from lib import programs
 from lib.place import expect
@@ -27,15 +27,21 @@ NOTHING = ("ninja: no work to do.\n", "", 0)
 RESTAT = "  restat = 1\n"
 GENERATOR = "  generator = 1\n"
 ROUNDS = 12  # of builds by both programs, in each tree
+WORDS = 6  # that mixed edges write
 TURNS = 6  # of builds, each by one of the programs with one of two command lines
 DEPFILE = "  depfile = $out.d\n"
 DEPS = DEPFILE + "  deps = gcc\n"
+DEPS_INSIDE = "  depfile = $out/d\n  deps = gcc\n"
 TREE = (Edge("p | q", "cp in p; cp in q", "in"), Edge("r", "cp p r", "p"), Edge("s", "cp in s", "in", RESTAT))
 
 
-def begun(builder: str, folder: pathlib.Path, edges: Tuple[Edge, ...] = TREE) -> None:
+SOURCES = {"in": "in\n"}
+
+
+def begun(builder: str, folder: pathlib.Path, edges: Sequence[Edge] = TREE,
+          sources: Mapping[str, str] = SOURCES) -> None:
     """Writes a tree and builds it."""
-    programs.write({"in": "in\n"}, folder)
+    programs.write(sources, folder)
     write(folder, edges)
     expect("status of the first build", 0, says(builder, folder)[2])
     expect("the second build", NOTHING, says(builder, folder))
@@ -120,6 +126,105 @@ def folders(builder: str, folder: pathlib.Path) -> None:
     begun(builder, folder, edges)
     (folder / "d" / "g").write_text("by hand\n")
     expect("the build after it", NOTHING, says(builder, folder))
+
+
+class Kind(NamedTuple):
+    """What a command makes: the command, which reads the file that `which` names, and the output's file."""
+
+    command: str
+    variables: str
+    file: str
+
+
+READS = "cat $$(cat which)"
+SAYS = "echo $out: $$(cat which) >"
+KINDS = {
+    "link": Kind(f"{READS} > t; ln -sf t $out; {SAYS} $out.d", DEPS, "o"),
+    "link to a source": Kind(f"{READS} > t; ln -sf s $out; {SAYS} $out.d", DEPS, "t"),
+    "folder": Kind(f"rm -rf $out; mkdir $out; {READS} > $out/f; {SAYS} $out.d", DEPS, "o/f"),
+    "folder of a depfile": Kind(f"rm -rf $out; mkdir $out; {READS} > $out/f; {SAYS} $out/d", DEPS_INSIDE, "o/f"),
+    "file of its input's date": Kind(f"{READS} > $out; touch -r s $out; {SAYS} $out.d", DEPS, "o"),
+    "depfile of its input's date": Kind(f"{READS} > $out; {SAYS} $out.d; touch -r s $out $out.d", DEPFILE, "o"),
+}
+HANDS = ("link", "folder", "folder of a depfile")  # of which a file is written, or a file is created in a folder
+
+
+def made_otherwise(kind: str, by: str, builder: str, folder: pathlib.Path) -> None:
+    """ninja or a hand makes an output with `deps` again, from another file, which is edited then."""
+    other = ninja() if by == "ninja" else None
+    command, variables, file = KINDS[kind]
+    programs.write({"h0": "old\n", "h1": "other\n", "which": "h0\n"}, folder)
+    time.sleep(0.02)
+    begun(builder, folder, (Edge("o", command, "s", variables),), {"s": "s\n"})
+    subprocess.run(["rm", "-r", "o"], cwd=folder, check=True)
+    (folder / "which").write_text("h1\n")
+    if other:
+        expect("status of ninja", 0, built(other, folder)[2])
+    else:
+        by_shell = command.replace("$out", "o").replace("$$", "$")
+        subprocess.run(["sh", "-c", by_shell], cwd=folder, check=True)
+    time.sleep(TICK)
+    (folder / "h1").write_text("new\n")
+    expect("errors and status", ("", 0), built(builder, folder)[1:])
+    expect("output", "new\n", (folder / file).read_text())
+    if "date" not in kind and kind != "link to a source":  # else the output stays older than what it was made from
+        expect("the build after it", NOTHING, says(builder, folder))
+
+
+COMMANDS = {
+    "link": Edge("o", "echo {word} > {word}; ln -sf {word} o", "s"),
+    "folder": Edge("o", "rm -rf o; mkdir o; echo {word} > o/f", "s"),
+    "file of its input's date": Edge("o", "echo {word} > o; touch -r s o", "s"),
+    "second output": Edge("p | o", "echo {word} > p; echo {word} > {word}; ln -sf {word} o; touch -r s p", "s"),
+    "implicit output": Edge("| o", "echo {word} > o; touch -r s o", "s", RESTAT),
+}
+
+
+def run_otherwise(kind: str, builder: str, folder: pathlib.Path) -> None:
+    """ninja makes an output by another command line, whose stamp doesn't show it."""
+    other, edge = ninja(), COMMANDS[kind]
+    edges = {word: (edge._replace(command=edge.command.format(word=word)),) for word in ("one", "two")}
+    begun(builder, folder, edges["one"], {"s": "s\n"})
+    file = "o/f" if kind == "folder" else "o"
+    for program, word in ((other, "two"), (builder, "one"), (other, "two"), (builder, "two"), (builder, "one")):
+        write(folder, edges[word])
+        expect(f"errors and status, {word}", ("", 0), built(program, folder)[1:])
+        expect("output", f"{word}\n", (folder / file).read_text())
+        expect("the build after it", NOTHING, built(program, folder))
+    (folder / "s").write_text("new\n")
+    expect("status of ninja", 0, built(other, folder)[2])
+    expect("the build after it", 0, built(builder, folder)[2])
+    expect("the build after that", NOTHING, says(builder, folder))
+
+
+def generator_otherwise(builder: str, folder: pathlib.Path) -> None:
+    """ninja runs a generator by another command line: it counts as made."""
+    other = ninja()
+    edge = COMMANDS["link"]._replace(more=GENERATOR)
+    begun(builder, folder, (edge._replace(command=edge.command.format(word="one")),), {"s": "s\n"})
+    (folder / "o").unlink()
+    write(folder, (edge._replace(command=edge.command.format(word="two")),))
+    expect("status of ninja", 0, built(other, folder)[2])
+    expect("the build after it", NOTHING, says(builder, folder))
+
+
+def folder_in_use(builder: str, folder: pathlib.Path) -> None:
+    """Another command writes in a folder that an edge with `deps` makes: that one doesn't run again."""
+    command, variables, _ = KINDS["folder of a depfile"]
+    edges = (Edge("o", command, "s", variables), Edge("o/x", "cp in o/x.new && mv o/x.new o/x", "in || o"))
+    begun(builder, folder, edges, {"s": "s\n", "in": "in\n", "h0": "old\n", "which": "h0\n"})
+    (folder / "in").write_text("new\n")
+    expect("the build after an edit", ("[1/1] o/x\n", "", 0), says(builder, folder))
+    expect("the build after it", NOTHING, says(builder, folder))
+
+
+def folder_with_deps(builder: str, folder: pathlib.Path) -> None:
+    """A hand creates a file in a folder that an edge with `deps` makes: its command runs again, once, as for ninja."""
+    command, variables, _ = KINDS["folder"]
+    begun(builder, folder, (Edge("o", command, "s", variables),), {"s": "s\n", "h0": "old\n", "which": "h0\n"})
+    (folder / "o" / "g").write_text("by hand\n")
+    expect("the build after it", ("[1/1] o\n", "", 0), says(builder, folder))
+    expect("the build after that", NOTHING, says(builder, folder))
 
 
 def generators(builder: str, folder: pathlib.Path) -> None:
@@ -246,9 +351,11 @@ def torn(builder: str, folder: pathlib.Path) -> None:
 def mixed_edges(words: Sequence[str], names: Sequence[str]) -> Tuple[Edge, ...]:
     """Returns edges that write words and copy sources: with two outputs, with restat, and with depfiles.
 
-    The source of the last one, and so its depfile, depends on another source.
+    The source of `f`, and so its depfile, depends on another source. `g` and `k` are links, `h` is a folder, and `m`
+    and `n` have the date of their source. The file `other`, of which the manifest doesn't know, says what `g` and `h`
+    read.
     """
-    first, second, third, fourth = words
+    first, second, third, fourth, fifth, sixth = words
     reads = "cat {source} > $out; echo $out: {source} > $out.d; echo {word} >> $out"
     return (
         Edge("o | p", f"(echo {first}; cat i0) > o; cp o p", "i0"),
@@ -257,30 +364,39 @@ def mixed_edges(words: Sequence[str], names: Sequence[str]) -> Tuple[Edge, ...]:
         Edge("e", reads.format(source=names[1], word=fourth), "i2", DEPS),
         Edge("f", "cat $$(cat which) > f.new; cmp -s f.new f || cp f.new f; echo f: $$(cat which) > f.d", "which",
              DEPS + RESTAT),
-        Edge("all", "cat o p r d e f > all", "o p r d e f"))
+        Edge("g", "cat $$(cat other) > t; ln -sf t g; echo g: $$(cat other) > g.d", "i2", DEPS),
+        Edge("h", "rm -rf h; mkdir h; cat $$(cat other) > h/f; echo h: $$(cat other) > h/d", "i2", DEPS_INSIDE),
+        Edge("k", f"echo {fifth} > k.{fifth}; ln -sf k.{fifth} k", "i0"),
+        Edge("m | n", f"echo {sixth} > m; echo {sixth} > n; touch -r i0 m n", "i0"),
+        Edge("all", "cat o p r d e f g h/f k m n > all", "o p r d e f g h k m n"))
 
 
 def mixed_text(words: Sequence[str], names: Sequence[str], folder: pathlib.Path) -> str:
     """Returns what these edges write together."""
     sources = [(folder / name).read_text() for name in ("i0", "i1", *names, (folder / "which").read_text().strip())]
     first = f"{words[0]}\n{sources[0]}"
+    other = (folder / (folder / "other").read_text().strip()).read_text()
     return (first * 2 + f"{words[1]}\n{sources[1][:1]}" + f"{sources[2]}{words[2]}\n" + f"{sources[3]}{words[3]}\n"
-            + sources[4])
+            + sources[4] + other * 2 + f"{words[4]}\n" + f"{words[5]}\n" * 2)
 
 
 def mixed(count: int, seed: int, builder: str, folder: pathlib.Path) -> None:
     """Both programs build in turns, after random edits of sources and command lines, and without some outputs."""
     programs_ = (builder, ninja())
     any_ = random.Random(seed)
-    words, names = ["a"] * 4, ["h0", "h1"]
+    words, names = ["a"] * WORDS, ["h0", "h1"]
     sources = ("i0", "i1", "i2", "h0", "h1")
     for name in sources:
         (folder / name).write_text("0\n")
-    (folder / "which").write_text("h0\n")
+    for name in ("which", "other"):
+        (folder / name).write_text("h0\n")
     for number in range(count):
         time.sleep(0.02)
         if any_.random() < 0.3:
             (folder / "which").write_text(any_.choice(("h0\n", "h1\n")))
+        if any_.random() < 0.3:
+            (folder / "other").write_text(any_.choice(("h0\n", "h1\n")))
+            subprocess.run(["rm", "-rf", "g", "h"], cwd=folder, check=True)
         for name in sources:
             if any_.random() < 0.2:
                 (folder / name).write_text(f"{number // 4}\n")
@@ -334,6 +450,14 @@ def cases(setting: Setting) -> Iterator[Case]:
     yield Case("output of the future", functools.partial(dated_ahead, builder))
     yield Case("restat takes what is there", functools.partial(taken, builder))
     yield Case("output folder", functools.partial(folders, builder))
+    yield Case("output folder in use", functools.partial(folder_in_use, builder))
+    yield Case("output folder with deps", functools.partial(folder_with_deps, builder))
+    for kind, by in itertools.product(KINDS, ("ninja", "a hand")):
+        if by == "ninja" or kind in HANDS:
+            yield Case(f"{kind} by {by}", functools.partial(made_otherwise, kind, by, builder))
+    for kind in COMMANDS:
+        yield Case(f"{kind} by another command", functools.partial(run_otherwise, kind, builder))
+    yield Case("generator by another command", functools.partial(generator_otherwise, builder))
     yield Case("generator by hand", functools.partial(generators, builder))
     yield Case("generator with a depfile", functools.partial(generator_reads, builder))
     yield Case("remade manifest", functools.partial(remade, builder))

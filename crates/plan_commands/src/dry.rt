@@ -111,6 +111,14 @@ impl<R: Wait, W: World> World for DryWorld<'_, R, W> {
         self.world.foreign_among(alloc, output, wanted, is_recorded)
     }
 
+    fn foreign_names_others(&self, output: &[u8]) -> Result<bool, AllocError> {
+        self.world.foreign_names_others(output)
+    }
+
+    fn foreign_ran_another(&self, output: &[u8], first: &[u8]) -> Result<bool, AllocError> {
+        self.world.foreign_ran_another(output, first)
+    }
+
     fn record_stamp(&self) -> Option<u64> {
         self.world.record_stamp()
     }

@@ -53,17 +53,18 @@ impl Pause {
     }
 }
 
-/// Returns the first of these paths whose file was written in a pause. Folders and symbolic links don't count, since
-/// their stamps change if other files do.
+/// Returns the first of these outputs that was written in a pause. Folders and symbolic links count only for an edge with
+/// `deps`, since their stamps change if other files do.
 fn first_written<'a, W: World>(
     world: &W,
     pause: &Pause,
-    paths: &PathRange<'a>,
+    outputs: &PathRange<'a>,
+    has_deps: bool,
 ) -> Option<&'a [u8]> {
-    for number in 0..paths.len() {
-        let path = paths.path(number);
+    for number in 0..outputs.len() {
+        let path = outputs.path(number);
         if let Some(stamp) = world.stat_ahead(path) {
-            if pause.has(world, stamp) && world.is_file(path) {
+            if pause.has(world, stamp) && (has_deps || world.is_file(path)) {
                 return Some(path);
             }
         }
@@ -102,17 +103,18 @@ pub(crate) fn forget<W: World>(
     world.forget(first, &words)
 }
 
-/// Ends the entry of an edge if one of these outputs was written in a pause, or last made by another edge. Returns
+/// Ends the entry of an edge if one of these outputs of it was written in a pause, or last made by another edge. Returns
 /// whether the entry still counts.
 fn check_outputs<'a, W: World>(
     alloc: Global,
     world: &W,
     pause: &Option<Pause>,
-    first: &[u8],
+    edge: &EdgeRef<'a>,
     outputs: &PathRange<'a>,
 ) -> Result<bool, AllocError> {
+    let first = first_output(edge);
     if let Some(pause) = pause {
-        if let Some(path) = first_written(world, pause, outputs) {
+        if let Some(path) = first_written(world, pause, outputs, edge.has_deps()) {
             let reason = b" was changed after its command made it";
             forget(alloc, world, first, path, reason)?;
             return Ok(false);
@@ -156,11 +158,78 @@ fn check_all_outputs<'a, W: World>(
     if edge.is_generator() & !edge.has_deps() {
         return Ok(true);
     }
-    let first = first_output(edge);
-    if check_outputs(alloc, world, pause, first, &edge.outputs())? {
-        return check_outputs(alloc, world, pause, first, &edge.implicit_outputs());
+    if check_outputs(alloc, world, pause, edge, &edge.outputs())? {
+        return check_outputs(alloc, world, pause, edge, &edge.implicit_outputs());
     }
     Ok(false)
+}
+
+/// Returns the first of these outputs that another builder made by another command than the entry of the edge with this
+/// first output has.
+fn first_of_another_command<'a, W: World>(
+    world: &W,
+    first: &[u8],
+    outputs: &PathRange<'a>,
+) -> Result<Option<&'a [u8]>, AllocError> {
+    for number in 0..outputs.len() {
+        let output = outputs.path(number);
+        if world.foreign_ran_another(output, first)? {
+            return Ok(Some(output));
+        }
+    }
+    Ok(None)
+}
+
+/// Ends the entry of an edge if another builder made one of these outputs of it by another command. Returns whether the
+/// entry still counts.
+fn check_commands<'a, W: World>(
+    alloc: Global,
+    world: &W,
+    edge: &EdgeRef<'a>,
+    outputs: &PathRange<'a>,
+) -> Result<bool, AllocError> {
+    let first = first_output(edge);
+    match first_of_another_command(world, first, outputs)? {
+        Some(path) => {
+            let reason = b" was last made by another builder, by another command";
+            forget(alloc, world, first, path, reason)?;
+            Ok(false)
+        }
+        None => Ok(true),
+    }
+}
+
+/// Ends the entry of an edge with `deps` if a command of another builder read a file that the entry doesn't have.
+fn check_read<'a, W: World>(
+    alloc: Global,
+    world: &W,
+    edge: &EdgeRef<'a>,
+) -> Result<(), AllocError> {
+    let first = first_output(edge);
+    if edge.has_deps() && world.foreign_names_others(first)? {
+        let reason = b" was last made by another builder, whose command read other files";
+        return forget(alloc, world, first, first, reason);
+    }
+    Ok(())
+}
+
+/// Ends the entry of an edge if it doesn't suit what another builder says of its own commands. The stamp of an output
+/// doesn't always show that it made it: a command may make a link, or date its output. The command of a generator may be
+/// another one.
+fn check_foreign<'a, W: World>(
+    alloc: Global,
+    world: &W,
+    edge: &EdgeRef<'a>,
+) -> Result<(), AllocError> {
+    if !edge.is_generator() {
+        if !check_commands(alloc, world, edge, &edge.outputs())? {
+            return Ok(());
+        }
+        if !check_commands(alloc, world, edge, &edge.implicit_outputs())? {
+            return Ok(());
+        }
+    }
+    check_read(alloc, world, edge)
 }
 
 /// Ends the entry of an edge if it doesn't count.
@@ -177,6 +246,7 @@ fn check_edge<'a, W: World>(
     if !check_all_outputs(alloc, world, pause, edge)? {
         return Ok(());
     }
+    check_foreign(alloc, world, edge)?;
     check_depfile(alloc, world, pause, outputs, edge)?;
     if edge.is_generator() {
         return check_generator(world, edge);
@@ -220,8 +290,11 @@ impl Checks {
 /// Ends the entries of edges that don't count in this build:
 ///
 /// - an output was written after the record was last written and before now, or before a command of this build began,
-///   or it was last made by the command of another edge. Generators are also run by hand, so theirs count, except those
-///   with `deps`: what they read is known only of those runs that the record has.
+///   or it was last made by the command of another edge. Generators are also run by hand, so theirs count, and so do
+///   folders and symbolic links, except those of edges with `deps`: what their commands read is known only of those runs
+///   that the record has.
+/// - another builder says that it made an output by another command, or that its command read a file for an edge with
+///   `deps` that the entry doesn't have.
 /// - a depfile that stands for itself is missing, or something else wrote it and it doesn't suit the entry.
 ///
 /// A generator with a depfile and without an entry runs.

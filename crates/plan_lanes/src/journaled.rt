@@ -80,6 +80,14 @@ impl<W: World> World for Journaled<'_, W> {
         self.world.foreign_among(alloc, output, wanted, is_recorded)
     }
 
+    fn foreign_names_others(&self, output: &[u8]) -> Result<bool, AllocError> {
+        self.world.foreign_names_others(output)
+    }
+
+    fn foreign_ran_another(&self, output: &[u8], first: &[u8]) -> Result<bool, AllocError> {
+        self.world.foreign_ran_another(output, first)
+    }
+
     fn take_outputs(&self, outputs: PathFilter) {
         self.world.take_outputs(outputs);
     }

@@ -112,6 +112,26 @@ pub trait World {
         Ok(None)
     }
 
+    /// Checks whether the record of another builder names a path for an output that the last entry of the output doesn't
+    /// have: a command of that builder read another file. The other record counts only if it is as late as the record was
+    /// when this build opened it. A world that reads no records of other builders says no.
+    ///
+    /// # Errors
+    /// `AllocError` if memory runs out.
+    fn foreign_names_others(&self, _output: &[u8]) -> Result<bool, AllocError> {
+        Ok(false)
+    }
+
+    /// Checks whether the record of another builder says that another command made an output than the last entry of its
+    /// edge, which has `first` as its first output. The other record counts as for `foreign_names_others`. A world that
+    /// reads no records of other builders says no.
+    ///
+    /// # Errors
+    /// `AllocError` if memory runs out.
+    fn foreign_ran_another(&self, _output: &[u8], _first: &[u8]) -> Result<bool, AllocError> {
+        Ok(false)
+    }
+
     /// Takes the set of the paths that edges of the manifest make. Start entries keep such paths. The set may say too
     /// often that it has a path. A world without start entries does nothing.
     fn take_outputs(&self, _outputs: PathFilter) {}

@@ -218,6 +218,14 @@ impl<R: Wait, W: World> World for StampCache<'_, R, W> {
             .foreign_among(alloc, output, wanted, is_recorded)
     }
 
+    fn foreign_names_others(&self, output: &[u8]) -> Result<bool, AllocError> {
+        self.inner.world.foreign_names_others(output)
+    }
+
+    fn foreign_ran_another(&self, output: &[u8], first: &[u8]) -> Result<bool, AllocError> {
+        self.inner.world.foreign_ran_another(output, first)
+    }
+
     fn take_outputs(&self, outputs: PathFilter) {
         self.inner.world.take_outputs(outputs);
     }

@@ -5,6 +5,7 @@ ghost use Rattle.std.specs.Prelude.{◌≤◌};
 use crate::fault::DeviceFault;
 use crate::ninja_deps::NinjaDeps;
 use crate::ninja_log::NinjaLog;
+use crate::ninja_runs::NinjaRuns;
 use crate::stamp::stamp_of;
 use indexmap::IndexMap;
 use plan_verify::PathList;
@@ -21,7 +22,8 @@ const TOLERANCE: u64 = 2_000_000_000;
 #[derive(Drop)]
 pub(crate) struct Begins {
     alloc: Global,
-    stamps: Mutex<IndexMap<Vec<u8>, u64>>,
+    /// The stamps, or 0 once they were taken.
+    stamps: Mutex<IndexMap<Vec<u8>, AtomicU64>>,
     /// The stamp of the first begin, or 0 if no command has begun.
     first: AtomicU64,
     /// Whether a warning of a file of the future was printed.
@@ -30,6 +32,8 @@ pub(crate) struct Begins {
     ninja_log: NinjaLog,
     /// ninja's own record of what its commands read.
     ninja_deps: NinjaDeps,
+    /// The commands by which ninja made outputs.
+    ninja_runs: NinjaRuns,
 }
 
 /// Returns the basis of the entry of a command that began at a stamp: what it read is at most as new as its begin.
@@ -57,6 +61,7 @@ impl Begins {
             has_warned: AtomicBool::new(false),
             ninja_log: NinjaLog::next_to(alloc, record)?,
             ninja_deps: NinjaDeps::next_to(alloc, record)?,
+            ninja_runs: NinjaRuns::next_to(alloc, record)?,
         })
     }
 
@@ -70,6 +75,11 @@ impl Begins {
         &self.ninja_deps
     }
 
+    /// Returns the commands by which ninja made outputs.
+    pub(crate) fn ninja_runs(&self) -> &NinjaRuns {
+        &self.ninja_runs
+    }
+
     /// Adds the begin of the command of an edge.
     pub(crate) fn add<R: Wait>(&self, rt: &R, edge: &[u8], begin: u64) -> Result<(), DeviceFault> {
         let edge = Vec::from_slice(self.alloc, edge)?;
@@ -77,7 +87,7 @@ impl Begins {
         if self.first.load(Ordering::SeqCst) == 0 {
             self.first.store(begin, Ordering::SeqCst);
         }
-        match stamps.insert(edge, begin) {
+        match stamps.insert(edge, AtomicU64::new(begin)) {
             Ok(_) => Ok(()),
             Err(_) => Err(DeviceFault::Memory),
         }
@@ -91,9 +101,18 @@ impl Begins {
         }
     }
 
-    /// Removes the begin of the command of an edge, and returns it.
+    /// Checks whether the command of an edge has begun.
+    pub(crate) fn have<R: Wait>(&self, rt: &R, edge: &[u8]) -> bool {
+        self.stamps.lock(rt).contains_key(edge)
+    }
+
+    /// Returns the begin of the command of an edge, if it has begun and nobody took its begin.
     pub(crate) fn take<R: Wait>(&self, rt: &R, edge: &[u8]) -> Option<u64> {
-        self.stamps.lock(rt).swap_remove(edge)
+        let stamps = self.stamps.lock(rt);
+        match stamps.get(edge)?.swap(0, Ordering::SeqCst) {
+            0 => None,
+            begin => Some(begin),
+        }
     }
 
     /// Reports on standard error, once, that an edge read a file whose stamp is later than this time of the file

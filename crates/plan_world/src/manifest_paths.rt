@@ -5,6 +5,15 @@ use plan_text::PathFilter;
 use std::alloc::Global;
 use std::sync::{Mutex, MutexGuard, Wait};
 
+/// Returns the path of the folder of a file with this path.
+fn folder_of(path: &[u8]) -> &[u8] {
+    let name = path.rsplit(|byte| *byte == b'/').next().unwrap_or(path);
+    match path.len().saturating_sub(name.len()).checked_sub(1) {
+        Some(len) => path.get(..len).unwrap_or(path),
+        None => b".",
+    }
+}
+
 /// Sets of paths of the manifest that was read last. They may say too often that they have a path.
 #[derive(Drop)]
 pub(crate) struct ManifestPaths {
@@ -38,9 +47,15 @@ impl ManifestPaths {
         self.outputs.lock(rt)
     }
 
+    /// Checks whether an edge makes a path, or the folder of its file, whose stamp changes with the files in it.
+    fn may_be_made<R: Wait>(&self, rt: &R, path: &[u8]) -> bool {
+        let outputs = self.outputs.lock(rt);
+        outputs.may_have(path) || outputs.may_have(folder_of(path))
+    }
+
     /// Checks whether the file of a path must stay. It must if it isn't known which ones do.
     pub(crate) fn must_stay<R: Wait>(&self, rt: &R, path: &[u8]) -> bool {
-        if self.outputs.lock(rt).may_have(path) {
+        if self.may_be_made(rt, path) {
             return true;
         }
         match &*self.others.lock(rt) {

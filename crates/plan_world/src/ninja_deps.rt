@@ -7,16 +7,15 @@
 
 use crate::askable::is_askable;
 use crate::fault::DeviceFault;
-use crate::ninja_log::folder_of;
+use crate::ninja_file::NinjaFile;
 use crate::record_file::{open_to_read, read_all};
-use crate::stamp::stamp_of;
 use indexmap::IndexMap;
-use plan_text::{PathFilter, RowList};
+use plan_record::Entry;
+use plan_text::{PathFilter, RowList, SharedRows};
 use std::alloc::Global;
 use std::fs::OpenFile;
 use std::io::Read;
 use std::rt::Files;
-use std::sync::atomic::{AtomicU64, Ordering};
 use std::sync::{Mutex, Wait};
 
 /// The front of a file of version 4, which ninja writes since its version 1.9.
@@ -139,6 +138,28 @@ impl NamedPaths {
         Ok(())
     }
 
+    /// Returns the numbers of the paths that the command of an output read.
+    fn list(&self, output: &[u8]) -> &[u32] {
+        match self.places.get(output) {
+            Some(place) => self.lists.row(*place),
+            None => &[],
+        }
+    }
+
+    /// Checks whether the command of an output read a path that isn't among these. Looks behind the last path that was
+    /// found first, since most lists have one order.
+    fn has_others(&self, output: &[u8], known: &SharedRows) -> bool {
+        let mut place = 0usize;
+        for number in self.list(output) {
+            let path = self.paths.row(*number as usize);
+            match place_after(known, place, path).or(place_after(known, 0, path)) {
+                Some(next) => place = next,
+                None => return true,
+            }
+        }
+        false
+    }
+
     /// Appends the paths that the command of an output read, if they may be in a set and the system can be asked about
     /// them.
     fn push_among(
@@ -147,10 +168,7 @@ impl NamedPaths {
         wanted: &PathFilter,
         found: &mut RowList<u8>,
     ) -> Result<(), DeviceFault> {
-        let Some(place) = self.places.get(output) else {
-            return Ok(());
-        };
-        for number in self.lists.row(*place) {
+        for number in self.list(output) {
             let path = self.paths.row(*number as usize);
             if wanted.may_have(path) && is_askable(path) {
                 found.push(path)?;
@@ -158,6 +176,16 @@ impl NamedPaths {
         }
         Ok(())
     }
+}
+
+/// Returns the place after the first of these rows, from a place on, that is equal to a path.
+fn place_after(rows: &SharedRows, from: usize, path: &[u8]) -> Option<usize> {
+    for number in from..rows.len() {
+        if rows.row(number) == path {
+            return Some(number + 1);
+        }
+    }
+    None
 }
 
 /// Reads the file at a path. A file that is missing or of another version says nothing.
@@ -178,32 +206,23 @@ where
 #[derive(Drop)]
 pub(crate) struct NinjaDeps {
     alloc: Global,
-    path: String,
-    /// The stamp of the file, 1 if it is missing, or 0 as long as it wasn't looked at.
-    stamp: AtomicU64,
+    file: NinjaFile,
     named: Mutex<Option<NamedPaths>>,
 }
 
 impl NinjaDeps {
     /// Returns the file in the folder of a record.
     pub(crate) fn next_to(alloc: Global, record: &str) -> Result<NinjaDeps, DeviceFault> {
-        let folder = folder_of(record);
         Ok(NinjaDeps {
             alloc,
-            path: format!(in alloc; "{folder}.ninja_deps")?,
-            stamp: AtomicU64::new(0),
+            file: NinjaFile::next_to(alloc, record, ".ninja_deps")?,
             named: Mutex::new(None),
         })
     }
 
-    /// Checks whether the file was written at this stamp or later. Looks at the file once.
-    pub(crate) fn is_written_since<R: Files>(&self, rt: &R, stamp: u64) -> bool {
-        let mut own = self.stamp.load(Ordering::SeqCst);
-        if own == 0 {
-            own = stamp_of(rt, self.path.as_bytes()).unwrap_or(0).max(1);
-            self.stamp.store(own, Ordering::SeqCst);
-        }
-        own >= stamp
+    /// Returns the file.
+    pub(crate) fn file(&self) -> &NinjaFile {
+        &self.file
     }
 
     /// Returns the paths that the file names for an output, if they may be in a set and the system can be asked about
@@ -228,12 +247,33 @@ impl NinjaDeps {
         Ok(found)
     }
 
+    /// Checks whether the file names a path for the output of an entry that the entry doesn't have. A file that can't be
+    /// read names none.
+    pub(crate) fn names_others<R: Files + Wait>(
+        &self,
+        rt: &R,
+        entry: &Entry,
+    ) -> Result<bool, DeviceFault>
+    where
+        R::File: Read + OpenFile + Drop,
+    {
+        let mut named = self.named.lock(rt);
+        if named.is_none() {
+            *named = Some(self.read(rt)?);
+        }
+        let known = entry.paths()?.into_rows(self.alloc)?;
+        match named.as_ref() {
+            Some(named) => Ok(named.has_others(entry.output(), &known)),
+            None => Ok(false),
+        }
+    }
+
     /// Reads the file. If it can't be read, it says nothing.
     fn read<R: Files>(&self, rt: &R) -> Result<NamedPaths, DeviceFault>
     where
         R::File: Read + OpenFile + Drop,
     {
-        match read_named(rt, self.alloc, self.path.as_str()) {
+        match read_named(rt, self.alloc, self.file.path()) {
             Ok(named) => Ok(named),
             Err(DeviceFault::Memory) => Err(DeviceFault::Memory),
             Err(_) => Ok(NamedPaths::new(self.alloc)),

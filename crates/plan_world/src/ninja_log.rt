@@ -16,7 +16,7 @@ use std::rt::Files;
 use std::sync::{Mutex, Wait};
 
 /// The first line of a log whose hashes are those of `hash_of`.
-const FIRST_LINE: [u8; 15] = *b"# ninja log v5\n";
+pub(crate) const FIRST_LINE: [u8; 15] = *b"# ninja log v5\n";
 
 /// The seed of ninja's hash.
 const SEED: u64 = 0xdeca_fbad_deca_fbad;

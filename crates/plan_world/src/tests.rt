@@ -7,6 +7,7 @@ mod failing;
 mod kept_paths;
 mod ninja_deps;
 mod ninja_log;
+mod ninja_runs;
 mod orders;
 mod reading;
 mod recalling;

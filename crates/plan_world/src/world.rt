@@ -1,43 +1,40 @@
 //! The world of real files and commands.
 
-ghost use Rattle.std.specs.Prelude.{◌≡◌, ◌≤◌, ℕ, [], IfErr, IfOk, IfSome, IsUtf8, None, Ok, Some, get_or};
+ghost use Rattle.std.specs.Prelude.{◌≡◌, ◌≤◌, ℕ, [], IfOk, IfSome, IsUtf8, None, Ok, Some, get_or};
 ghost use Rattle.plan_machine.specs.declared.event.reply.Reply.TheVariants as reply;
 ghost use Rattle.plan_verify.specs.Turn.{Keep, Recall, Run};
 ghost use Rattle.plan_world.specs.Answers.{IsAnswer, IsByShell, MayAnswer};
-ghost use Rattle.plan_world.specs.Askable.{AreAskable, IsRecalled, RecallsAs};
+ghost use Rattle.plan_world.specs.Askable.{AreAskable};
 ghost use Rattle.plan_world.specs.Recording.{edge_entry};
 ghost use Rattle.plan_world.specs.Shells.{AreTexts};
 
-use crate::askable::{are_askable, are_rows_askable};
 use crate::begins::{Begins, basis_from, is_later};
-use crate::builder_lock::{BuilderLock, SharedFile, is_unwritable, take_lock};
+use crate::builder_lock::{BuilderLock, SharedFile};
 use crate::depfile::{count_named, read_depfile};
 use crate::disk::Disk;
 use crate::ended_entries::EndedEntries;
 use crate::fault::{DeviceFault, OpenFault};
 use crate::manifest_paths::ManifestPaths;
+use crate::opening::{Opened, open_for_building, open_for_reading, open_locked};
 use crate::read_depfiles::ReadDepfiles;
 use crate::reasons::say;
-use crate::record_file::{Kept, RecordFile, StartRecorded, open_file, open_record, read_as_is};
-use crate::record_sink::{
-    begun_entry, entry_among, is_begun, is_begun_with, read_among, recorded_of,
-};
-use crate::rewriting::compact_grown;
+use crate::recalling::{as_recalled, askable_among, if_askable, kept_among, recall_reply};
+use crate::record_file::{Kept, RecordFile, StartRecorded};
+use crate::record_sink::{begun_entry, is_begun, is_begun_with};
 use crate::shell::{Shells, make_folders, run_shell};
-use crate::stamp::{is_file, stamp_at, stat};
+use crate::stamp::{is_file, stat};
 use plan_lanes::{KeepOrder, Permit, World};
-use plan_machine::{Recorded, Reply};
+use plan_machine::Reply;
 use plan_record::Entry;
 use plan_text::{PathFilter, RowList};
 use std::alloc::{AllocError, Global};
 use std::env::Env;
 use std::fs::{self, OpenFile};
-use std::io::{ErrorKind, Read, Seek, Write};
-use std::os::unix::fs::MetadataExt;
+use std::io::{Read, Seek, Write};
 use std::rt::Files;
 use std::sync::{Mutex, Wait};
 use std::thread::Parker;
-use std::time::{Clock, SystemTime, UNIX_EPOCH};
+use std::time::Clock;
 
 /// Real files and commands, and a record file that is open. Several lanes may call it at the same time.
 ///
@@ -171,37 +168,63 @@ where
         S: Drop,
         D: Drop,
     {
+        match with_paths(&rt, record, opened) {
+            Ok((opened, manifest)) => {
+                Ok(RealWorld::of(rt, shells, disk, begins, opened, manifest))
+            }
+            Err(fault) => Err(fault),
+        }
+    }
+
+    /// Returns the world with these parts.
+    fn of(
+        rt: R,
+        shells: S,
+        disk: D,
+        begins: Option<Begins>,
+        opened: Opened<R::File>,
+        manifest: ManifestPaths,
+    ) -> RealWorld<R, S, D> {
         let alloc = rt.alloc();
-        let manifest = ManifestPaths::new(alloc)?;
-        let (ended, depfiles) = (EndedEntries::new(alloc), ReadDepfiles::new(alloc));
-        match opened {
-            Ok(opened) => {
-                let Opened {
-                    path,
-                    lock,
-                    stamp,
-                    file,
-                } = opened;
-                Ok(RealWorld {
-                    rt,
-                    shells,
-                    disk,
-                    screen: Mutex::new(()),
-                    parker: Parker::new(),
-                    path,
-                    opened: stamp,
-                    record: Mutex::new(file),
-                    lock,
-                    begins,
-                    ended,
-                    manifest,
-                    depfiles,
-                })
-            }
-            Err(fault) => {
-                say(&rt, "can't open the record", record.as_bytes(), fault);
-                Err(OpenFault::from(fault))
-            }
+        let Opened {
+            path,
+            lock,
+            stamp,
+            file,
+        } = opened;
+        RealWorld {
+            rt,
+            shells,
+            disk,
+            screen: Mutex::new(()),
+            parker: Parker::new(),
+            path,
+            opened: stamp,
+            record: Mutex::new(file),
+            lock,
+            begins,
+            ended: EndedEntries::new(alloc),
+            manifest,
+            depfiles: ReadDepfiles::new(alloc),
+        }
+    }
+}
+
+/// Returns a record that was opened, with sets for the paths of a manifest. If it couldn't be opened, reports the reason
+/// on standard error.
+fn with_paths<R: Eprint + AllocGlobal, F: Drop>(
+    rt: &R,
+    record: &str,
+    opened: Result<Opened<F>, DeviceFault>,
+) -> Result<(Opened<F>, ManifestPaths), OpenFault> {
+    match opened {
+        Ok(opened) => {
+            let manifest = ManifestPaths::new(rt.alloc())?;
+            Ok((opened, manifest))
+        }
+        Err(fault) => {
+            say(rt, "can't open the record", record.as_bytes(), fault);
+            Err(OpenFault::from(fault))
         }
     }
 }
@@ -214,152 +237,6 @@ fn whole_path<R: Files + AllocGlobal>(rt: &R, path: &str) -> Result<String, Devi
     let folder = fs::canonicalize(rt, ".")?;
     let folder = folder.as_str();
     Ok(format!(in rt.alloc(); "{folder}/{path}")?)
-}
-
-/// A record of this many bytes or more isn't read when it is opened.
-const LONG: u64 = 65_536;
-
-/// Opens a record that is locked, reads it, and compacts it if it has grown. If no lock was taken, since the record
-/// isn't written, it is only read.
-fn open_locked<R: Files + AllocGlobal>(
-    rt: &R,
-    record: &str,
-    lock: &BuilderLock<R::File>,
-) -> Result<RecordFile<R::File>, DeviceFault>
-where
-    R::File: Read + Write + Seek + OpenFile + SharedFile + Drop,
-{
-    if let Some(unwritable) = lock.unwritable() {
-        return read_as_is(rt, record, unwritable);
-    }
-    let file = open_record(rt, record)?;
-    compact_grown(rt, record, lock, file)
-}
-
-/// A record that was opened for a build.
-#[derive(Drop)]
-struct Opened<F> {
-    path: String,
-    lock: BuilderLock<F>,
-    /// The stamp that the record had before this builder changed it. None if it was missing or empty.
-    stamp: Option<u64>,
-    /// The record, or None if it is long and wasn't read.
-    file: Option<RecordFile<F>>,
-}
-
-/// Returns the stamp of the record at a path. Returns None if it is missing or empty. A builder that holds the lock
-/// writes the record and replaces its file.
-fn written_stamp<R: Files>(rt: &R, record: &str) -> Result<Option<u64>, DeviceFault> {
-    match fs::metadata(rt, record) {
-        Ok(found) if found.len() > 0 => Ok(Some(stamp_at(found.mtime(), found.mtime_nsec()))),
-        Ok(_) => Ok(None),
-        Err(error) => match error.kind() {
-            ErrorKind::NotFound => Ok(None),
-            _ => Err(DeviceFault::from(error)),
-        },
-    }
-}
-
-/// Takes the lock of a record. Refuses folders, devices and pipes before it creates a lock. If the record or its lock
-/// is missing and may not be created, no lock is taken, and the record is only read. Also returns whether the record
-/// was long.
-fn lock_or_read<R: Files + Env + Clock + Eprint + AllocGlobal + Clone + Drop>(
-    rt: &R,
-    record: &str,
-) -> Result<(BuilderLock<R::File>, bool), DeviceFault>
-where
-    R::File: Read + Write + Seek + OpenFile + SharedFile + Drop,
-{
-    match lock_of(rt, record) {
-        Err(DeviceFault::System(kind, _)) if is_unwritable(kind) => {
-            Ok((BuilderLock::reading(rt.alloc(), kind, time_now(rt)), false))
-        }
-        taken => taken,
-    }
-}
-
-/// Takes the lock of a record, and creates an empty record if it is missing. Also returns whether the record was long.
-fn lock_of<R: Files + Env + Clock + Eprint + AllocGlobal + Clone + Drop>(
-    rt: &R,
-    record: &str,
-) -> Result<(BuilderLock<R::File>, bool), DeviceFault>
-where
-    R::File: Read + Write + Seek + OpenFile + SharedFile + Drop,
-{
-    let (found, _) = open_file(rt, record)?;
-    let is_long = found.metadata()?.len() >= LONG;
-    drop(found);
-    Ok((take_lock(rt, record)?, is_long))
-}
-
-/// Returns the time now as a stamp. Returns None if it isn't known.
-fn time_now<R: Clock>(rt: &R) -> Option<u64> {
-    let now = SystemTime::now(rt).ok()?;
-    let since = now.duration_since(UNIX_EPOCH).ok()?;
-    u64::try_from(since.as_nanos()).ok()
-}
-
-/// Looks at the stamp of a record, and reads the record if it is short. Takes no lock and creates nothing.
-fn open_for_reading<R: Files + Clock + Eprint + AllocGlobal>(
-    rt: &R,
-    record: &str,
-) -> Result<Opened<R::File>, DeviceFault>
-where
-    R::File: Read + Write + Seek + OpenFile + SharedFile + Drop,
-{
-    let lock = BuilderLock::reading(rt.alloc(), ErrorKind::PermissionDenied, time_now(rt));
-    let stamp = written_stamp(rt, record)?;
-    opened_with(rt, record, lock, stamp, is_long(rt, record))
-}
-
-/// Checks whether a record is so long that it isn't read when it is opened.
-fn is_long<R: Files>(rt: &R, record: &str) -> bool {
-    match fs::metadata(rt, record) {
-        Ok(found) => found.len() >= LONG,
-        Err(_) => false,
-    }
-}
-
-/// Reads a record unless it was found to be long.
-fn opened_with<R: Files + AllocGlobal>(
-    rt: &R,
-    record: &str,
-    lock: BuilderLock<R::File>,
-    stamp: Option<u64>,
-    is_long: bool,
-) -> Result<Opened<R::File>, DeviceFault>
-where
-    R::File: Read + Write + Seek + OpenFile + SharedFile + Drop,
-{
-    let path = String::from_str(rt.alloc(), record)?;
-    let mut file = None;
-    if !is_long {
-        file = Some(open_locked(rt, record, &lock)?);
-    }
-    Ok(Opened {
-        path,
-        lock,
-        stamp,
-        file,
-    })
-}
-
-/// Takes the lock of a record, looks at the record's stamp if it is asked for, and reads the record if it is short. A
-/// nested builder doesn't look at the stamp, since the builder above it writes the record meanwhile.
-fn open_for_building<R: Files + Env + Clock + Eprint + AllocGlobal + Clone + Drop>(
-    rt: &R,
-    record: &str,
-    wants_stamp: bool,
-) -> Result<Opened<R::File>, DeviceFault>
-where
-    R::File: Read + Write + Seek + OpenFile + SharedFile + Drop,
-{
-    let (lock, is_long) = lock_or_read(rt, record)?;
-    let mut stamp = None;
-    if wants_stamp && (lock.is_held() || lock.unwritable().is_some()) {
-        stamp = written_stamp(rt, record)?;
-    }
-    opened_with(rt, record, lock, stamp, is_long)
 }
 
 impl<R: Files + Wait + Eprint + AllocGlobal, S, D> RealWorld<R, S, D>
@@ -578,7 +455,8 @@ where
         record.keep_edge(self.rt.alloc(), order, basis_from(begin, order.basis()))
     }
 
-    /// Marks the outputs of an edge whose entry was just kept as made in ninja's log, if its command ran in this build.
+    /// Marks the outputs of an edge as made in ninja's log, if its command ran in this build. Its entry is kept after that:
+    /// the log is later than the record only if ninja wrote in it.
     fn end_for_ninja(&self, order: &KeepOrder, begin: Option<u64>) {
         if let (Some(begins), Some(begin)) = (&self.begins, begin) {
             begins
@@ -669,6 +547,23 @@ where
         }
     }
 
+    /// Checks whether ninja's record of what its commands read is as late as the record was when it was opened.
+    fn is_read_since(&self, begins: &Begins) -> bool {
+        match self.opened {
+            Some(opened) => begins.ninja_deps().file().stamp(&self.rt) >= opened,
+            None => false,
+        }
+    }
+
+    /// Checks whether ninja's log is later than the record was when it was opened. A builder of this project writes its
+    /// lines there before its entries.
+    fn is_run_since(&self, begins: &Begins) -> bool {
+        match self.opened {
+            Some(opened) => begins.ninja_runs().file().stamp(&self.rt) > opened,
+            None => false,
+        }
+    }
+
     /// Checks whether ninja's record of what its commands read counts for an output, if this is a world of the stricter
     /// rule. If the output has an entry of a command that ended, ninja's record must be as late as the record was when
     /// it was opened. `is_recorded` says that there is such an entry, which names paths.
@@ -676,10 +571,7 @@ where
         let Some(begins) = &self.begins else {
             return Ok(false);
         };
-        let is_later = match self.opened {
-            Some(opened) => begins.ninja_deps().is_written_since(&self.rt, opened),
-            None => false,
-        };
+        let is_later = self.is_read_since(begins);
         if is_later | is_recorded {
             return Ok(is_later);
         }
@@ -721,6 +613,49 @@ where
             return self.named_by_ninja(output, wanted);
         }
         Ok(None)
+    }
+
+    /// Returns the last entry of an edge, by its first output, if it is that of a command that ended before this build.
+    fn last_ended(&self, begins: &Begins, first: &[u8]) -> Result<Option<Entry>, DeviceFault> {
+        if begins.have(&self.rt, first) {
+            return Ok(None);
+        }
+        match self.last_recorded(first)? {
+            Some(last) if !is_begun(&last) => Ok(Some(last)),
+            _ => Ok(None),
+        }
+    }
+
+    /// Checks whether ninja's record of what its commands read is as late as the record, and names a path for an output
+    /// that its last entry doesn't have.
+    fn is_read_otherwise(&self, begins: &Begins, output: &[u8]) -> Result<bool, DeviceFault> {
+        if !self.is_read_since(begins) {
+            return Ok(false);
+        }
+        match self.last_ended(begins, output)? {
+            Some(last) => begins.ninja_deps().names_others(&self.rt, &last),
+            None => Ok(false),
+        }
+    }
+
+    /// Checks whether ninja's log is later than the record, and says that ninja may have made an output after the last
+    /// entry of its edge.
+    fn is_run_otherwise(
+        &self,
+        begins: &Begins,
+        output: &[u8],
+        first: &[u8],
+    ) -> Result<bool, DeviceFault> {
+        if !self.is_run_since(begins) {
+            return Ok(false);
+        }
+        let Some(command) = begins.ninja_runs().last(&self.rt, output)? else {
+            return Ok(false);
+        };
+        match self.last_ended(begins, first)? {
+            Some(last) => Ok(command.may_be_foreign(last.command())),
+            None => Ok(false),
+        }
     }
 
     /// Appends a start entry for the path of a depfile that was read, unless it has an entry. If that fails, the edge
@@ -792,87 +727,6 @@ fn begin_each<F: Read + Write + Seek + OpenFile + SharedFile>(
     Ok(())
 }
 
-/// Returns these paths. Returns None if the system can't be asked about one of them: then their entry is spoilt.
-fn if_askable(paths: RowList<u8>) -> Option<RowList<u8>>
-    ensures askable { IfSome result (λ all. AreAskable all) }
-    ensures paths { AreAskable paths → result ≡ Some paths }
-{
-    if are_rows_askable(&paths) {
-        return Some(paths);
-    }
-    None
-}
-
-/// Returns those paths of an entry that may be in a set. Returns None if it is a start entry, has no paths or is
-/// spoilt.
-fn askable_among(
-    alloc: Global,
-    entry: &Entry,
-    wanted: &PathFilter,
-) -> Result<Option<RowList<u8>>, DeviceFault>
-    ensures { IfOk result (λ found. IfSome found (λ paths. AreAskable paths)) }
-{
-    match entry_among(alloc, entry, wanted)? {
-        Some(paths) => Ok(if_askable(paths)),
-        None => Ok(None),
-    }
-}
-
-/// Returns those paths that a start entry keeps and that may be in a set. Returns None if the entry is no start entry,
-/// keeps no such paths, or is spoilt.
-fn kept_among(
-    alloc: Global,
-    entry: &Entry,
-    wanted: &PathFilter,
-) -> Result<Option<RowList<u8>>, DeviceFault>
-    ensures { IfOk result (λ found. IfSome found (λ paths. AreAskable paths)) }
-{
-    if !is_begun(entry) {
-        return Ok(None);
-    }
-    let kept = read_among(alloc, entry, wanted)?;
-    if kept.len() == 0 {
-        return Ok(None);
-    }
-    Ok(if_askable(kept))
-}
-
-/// Returns the reply to a recall that found an entry with these contents. If the system can't be asked about one of its
-/// paths, the entry is spoilt. Then the reply is `Nothing`, so that the edge's command runs again.
-fn replied_entry(recorded: Recorded) -> Reply
-    ensures { RecallsAs recorded result }
-{
-    if are_askable(recorded.paths()) {
-        Reply::Entry(recorded)
-    } else {
-        Reply::Nothing
-    }
-}
-
-/// Returns an entry as its edge recalls it: a start entry without the paths that it keeps, which needn't be looked up.
-fn as_recalled(alloc: Global, output: &[u8], entry: Entry) -> Result<Entry, DeviceFault>
-    requires { entry.output ≡ output.now }
-    ensures { IfOk result (λ e. e.output ≡ output.now) }
-{
-    if is_begun(&entry) {
-        return begun_entry(alloc, output);
-    }
-    Ok(entry)
-}
-
-/// Returns the reply to a recall: the entry that was found for the output, if it isn't spoilt.
-fn recall_reply(alloc: Global, output: &[u8], found: Option<Entry>) -> Result<Reply, DeviceFault>
-    requires { IfSome found (λ e. e.output ≡ output.now) }
-    ensures suits { IfOk result (λ r. IsAnswer (Recall output.now) r) }
-    ensures recalled { IfOk result (λ r. IsRecalled found r) }
-    ensures memory { IfErr result (λ f. f ≡ DeviceFault.Memory) }
-{
-    match found {
-        Some(entry) => Ok(replied_entry(recorded_of(alloc, &entry)?)),
-        None => Ok(Reply::Nothing),
-    }
-}
-
 impl<R: Files + Print + Eprint + Wait + AllocGlobal, S: Shells, D: Disk> RealWorld<R, S, D>
 where
     R::File: Read + Write + Seek + OpenFile + SharedFile + Drop,
@@ -884,6 +738,15 @@ where
     {
         let found = self.last(output)?;
         recall_reply(self.rt.alloc(), output, found)
+    }
+}
+
+/// Returns an answer about another builder's record. It is no if a record can't be read.
+fn unless_memory(answer: Result<bool, DeviceFault>) -> Result<bool, AllocError> {
+    match answer {
+        Ok(is_so) => Ok(is_so),
+        Err(DeviceFault::Memory) => Err(AllocError),
+        Err(_) => Ok(false),
     }
 }
 
@@ -978,6 +841,21 @@ where
         }
     }
 
+    fn foreign_names_others(&self, output: &[u8]) -> Result<bool, AllocError> {
+        match &self.begins {
+            Some(begins) => unless_memory(self.is_read_otherwise(begins, output)),
+            None => Ok(false),
+        }
+    }
+
+    /// Says yes for each command that ninja ran, also if its command line is that of the entry.
+    fn foreign_ran_another(&self, output: &[u8], first: &[u8]) -> Result<bool, AllocError> {
+        match &self.begins {
+            Some(begins) => unless_memory(self.is_run_otherwise(begins, output, first)),
+            None => Ok(false),
+        }
+    }
+
     fn take_outputs(&self, outputs: PathFilter) {
         self.manifest.take_outputs(&self.rt, outputs);
     }
@@ -1063,9 +941,9 @@ where
 
     fn keep(&self, _number: u64, order: &KeepOrder) -> Result<Reply, AllocError> {
         let begin = self.begin_of(order.output());
+        self.end_for_ninja(order, begin);
         match self.append(order, begin) {
             Ok(kept) => {
-                self.end_for_ninja(order, begin);
                 self.warn_of_future(order, begin);
                 Ok(keep_reply(kept, order))
             }

@@ -1,7 +1,7 @@
 //! Builds of manifests in memory. In most worlds here, the edge that builds the manifest is out of date `rounds` times.
 
 use crate::commands::fakes::{
-    Failing, Generator, Listening, ReadBy, Reads, Settled, Touched, Versions,
+    Failing, Generator, Listening, ReadBy, Reads, Settled, Shared, Touched, Versions,
 };
 use plan_commands::{Done, Listed, Order, Printer, do_build, do_dry_build};
 use plan_lanes::World;
@@ -11,7 +11,9 @@ use plan_status::StatusLines;
 use plan_text::{Counted, Sink};
 use std::alloc::{AllocError, Global};
 use std::mem::forget;
+use std::process::Abort;
 use std::sync::Wait;
+use std::sync::atomic::{AtomicBool, Ordering};
 use std::test::Fail;
 use std::thread::{Parker, Threads};
 
@@ -20,6 +22,20 @@ type Told = (Vec<u8>, Result<Done, Vec<u8>>);
 
 /// A manifest that no edge builds.
 const PLAIN: &[u8] = b"rule cc\n  command = cc $in -o $out\nbuild out: cc in\n";
+
+/// A manifest whose edge has `deps`.
+const WITH_DEPS: &[u8] =
+    b"rule cc\n  command = cc $in -o $out\n  depfile = $out.d\n  deps = gcc\nbuild out: cc in\n";
+
+/// A manifest whose edge has a second output.
+const WITH_SECOND: &[u8] = b"rule cc\n  command = cc in -o out\nbuild out second: cc in\n";
+
+/// A manifest whose edge has an implicit output.
+const WITH_IMPLICIT: &[u8] = b"rule cc\n  command = cc in -o out\nbuild out | second: cc in\n";
+
+/// A manifest whose edge has a second output, and is a generator.
+const SECOND_BY_GENERATOR: &[u8] =
+    b"rule cc\n  command = cc in -o out\n  generator = 1\nbuild out second: cc in\n";
 
 /// A manifest that an edge builds.
 const MADE: &[u8] =
@@ -296,6 +312,80 @@ fn recorded_path_is_waited_for(rt: HostRuntime) -> Result<(), Fail> {
             b"[1/2] gen h\n[2/2] cc in -o out\n".as_slice()
         );
         assert!(rt; matches!(&done, Ok(Done::Built)));
+    }
+    Ok(())
+}
+
+/// Returns the world of a record with this stamp, in which another builder changed nothing but the dates of links.
+fn shared(alloc: Global, record: u64) -> Shared {
+    Shared {
+        alloc,
+        record,
+        names_others: false,
+        ran_another: false,
+        ended: AtomicBool::new(false),
+    }
+}
+
+/// Builds `out` where another builder may have built it. Returns whether its entry ended. If so, its command ran.
+fn runs_again<R: Threads + Wait + Sync + AllocGlobal + Abort>(
+    rt: &R,
+    manifest: &[u8],
+    world: Shared,
+) -> Result<bool, Fail> {
+    let (text, done) = built(rt, &[manifest], &[b"out"], &world)?;
+    if !world.ended.load(Ordering::SeqCst) {
+        assert!(rt; matches!(&done, Ok(Done::UpToDate)));
+        return Ok(false);
+    }
+    assert_eq!(rt; text.as_slice(), b"[1/1] cc in -o out\n".as_slice());
+    assert!(rt; matches!(&done, Ok(Done::Built)));
+    Ok(true)
+}
+
+/// Checks that a command with `deps` runs again if another builder's record names other files for it.
+#[test]
+fn other_files_are_seen(rt: HostRuntime) -> Result<(), Fail> {
+    for (manifest, names_others, runs) in [
+        (WITH_DEPS, false, false),
+        (WITH_DEPS, true, true),
+        (PLAIN, true, false),
+    ] {
+        let world = Shared {
+            names_others,
+            ..shared(rt.alloc(), 9)
+        };
+        assert_eq!(rt; runs_again(&rt, manifest, world)?, runs);
+    }
+    Ok(())
+}
+
+/// Checks that a command with `deps` runs again if a link that it made is newer than the record. Without `deps`, links
+/// don't count.
+#[test]
+fn newer_link_is_seen(rt: HostRuntime) -> Result<(), Fail> {
+    assert!(rt; runs_again(&rt, WITH_DEPS, shared(rt.alloc(), 8))?);
+    assert!(rt; !runs_again(&rt, WITH_DEPS, shared(rt.alloc(), 9))?);
+    assert!(rt; !runs_again(&rt, PLAIN, shared(rt.alloc(), 8))?);
+    Ok(())
+}
+
+/// Checks that a command runs again if another builder made one of its outputs by another command, but that of a
+/// generator doesn't.
+#[test]
+fn other_command_is_seen(rt: HostRuntime) -> Result<(), Fail> {
+    for (manifest, ran_another, runs) in [
+        (WITH_SECOND, false, false),
+        (WITH_SECOND, true, true),
+        (WITH_IMPLICIT, true, true),
+        (PLAIN, true, false),
+        (SECOND_BY_GENERATOR, true, false),
+    ] {
+        let world = Shared {
+            ran_another,
+            ..shared(rt.alloc(), 9)
+        };
+        assert_eq!(rt; runs_again(&rt, manifest, world)?, runs);
     }
     Ok(())
 }

@@ -7,7 +7,7 @@ use plan_scope::{Source, SourceFault};
 use plan_text::{GhostCounter, PathFilter, RowList, Sink, SinkFault};
 use plan_verify::{PathList, Words};
 use std::alloc::{AllocError, Global};
-use std::sync::atomic::{AtomicU64, Ordering};
+use std::sync::atomic::{AtomicBool, AtomicU64, Ordering};
 
 /// A file in memory: its path and its bytes.
 pub type File<'a> = (&'a [u8], &'a [u8]);
@@ -280,6 +280,102 @@ impl World for Touched {
         let command = Words::of(self.alloc, b"cc in -o out".as_slice())?;
         let paths = PathList::empty(self.alloc)?;
         Ok(Reply::Entry(Recorded::new(self.alloc, command, self.basis, paths)?))
+    }
+
+    fn run(
+        &self,
+        _number: u64,
+        _outputs: &RowList<u8>,
+        permit: Permit,
+    ) -> Result<Reply, AllocError> {
+        permit.spend();
+        Ok(Reply::Exit(0))
+    }
+
+    fn read_depfile(&self, _number: u64, _path: &[u8]) -> Result<Reply, AllocError> {
+        Ok(Reply::Nothing)
+    }
+
+    fn keep(&self, _number: u64, _order: &KeepOrder) -> Result<Reply, AllocError> {
+        Ok(Reply::Kept)
+    }
+}
+
+/// A world in which another builder may have built `out`: `in` has the stamp 7, all other files are symbolic links with
+/// the stamp 9, and each edge has an entry with the command `cc in -o out`, the basis 7 and the path `in`, until an entry
+/// is ended. Commands succeed.
+#[derive(Drop)]
+pub struct Shared {
+    pub alloc: Global,
+    /// The stamp of the record.
+    pub record: u64,
+    /// Whether the other builder's record names a path of `out` that the entry doesn't have.
+    pub names_others: bool,
+    /// Whether the other builder made `second` by another command than the entry of `out` has.
+    pub ran_another: bool,
+    pub ended: AtomicBool,
+}
+
+impl World for Shared {
+    ghost use Rattle.std.specs.Prelude.{⊤};
+
+    ghost allows = { λ number request reply. ⊤ };
+
+    fn keeps_journal() -> bool {
+        false
+    }
+
+    fn observes() -> bool {
+        false
+    }
+
+    fn stat(&self, _number: u64, path: &[u8]) -> Result<Reply, AllocError> {
+        Ok(Reply::Stamp(if path == b"in".as_slice() { 7 } else { 9 }))
+    }
+
+    fn stat_ahead(&self, path: &[u8]) -> Option<u64> {
+        if path == b"in".as_slice() {
+            Some(7)
+        } else {
+            Some(9)
+        }
+    }
+
+    fn recall(&self, _number: u64, _output: &[u8]) -> Result<Reply, AllocError> {
+        if self.ended.load(Ordering::SeqCst) {
+            return Ok(Reply::Nothing);
+        }
+        let command = Words::of(self.alloc, b"cc in -o out".as_slice())?;
+        let mut rows = RowList::new(self.alloc);
+        rows.push(b"in")?;
+        let paths = PathList::new(self.alloc, rows)?;
+        Ok(Reply::Entry(Recorded::new(self.alloc, command, 7, paths)?))
+    }
+
+    fn foreign_names_others(&self, output: &[u8]) -> Result<bool, AllocError> {
+        Ok(self.names_others & (output == b"out".as_slice()))
+    }
+
+    fn foreign_ran_another(&self, output: &[u8], first: &[u8]) -> Result<bool, AllocError> {
+        let is_second = (output == b"second".as_slice()) & (first == b"out".as_slice());
+        Ok(self.ran_another & is_second)
+    }
+
+    fn record_stamp(&self) -> Option<u64> {
+        Some(self.record)
+    }
+
+    fn now(&self) -> Option<u64> {
+        Some(20)
+    }
+
+    fn is_file(&self, _path: &[u8]) -> bool {
+        false
+    }
+
+    fn forget(&self, _output: &[u8], _reason: &[u8]) -> Result<(), AllocError> {
+        self.ended.store(true, Ordering::SeqCst);
+        Ok(())
     }
 
     fn run(

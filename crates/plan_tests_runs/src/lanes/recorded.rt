@@ -70,6 +70,14 @@ impl World for Remembers {
         Ok(Some(paths))
     }
 
+    fn foreign_names_others(&self, output: &[u8]) -> Result<bool, AllocError> {
+        Ok(output == b"out".as_slice())
+    }
+
+    fn foreign_ran_another(&self, output: &[u8], first: &[u8]) -> Result<bool, AllocError> {
+        Ok((output == b"b".as_slice()) & (first == b"out".as_slice()))
+    }
+
     fn record_stamp(&self) -> Option<u64> {
         Some(7)
     }
@@ -151,6 +159,10 @@ fn finds_foreign<W: World>(rt: &impl Abort, alloc: Global, world: &W) -> Result<
             .is_none()
     );
     assert!(rt; world.foreign_among(alloc, b"b", &wanted, true)?.is_none());
+    assert!(rt; world.foreign_names_others(b"out")?);
+    assert!(rt; !world.foreign_names_others(b"b")?);
+    assert!(rt; world.foreign_ran_another(b"b", b"out")?);
+    assert!(rt; !world.foreign_ran_another(b"out", b"b")?);
     Ok(())
 }
 

@@ -161,7 +161,7 @@ fn depfiles_are_removed(rt: HostRuntime) -> Result<(), Fail> {
     Ok(())
 }
 
-/// Checks that files stay that the manifest needs, and all of them if nothing is known of the manifest, or by the
+/// Checks that files stay that the manifest needs, those in a folder that an edge makes, and all of them if nothing is known of the manifest, or by the
 /// specified rule.
 #[test]
 fn needed_depfiles_stay(rt: HostRuntime) -> Result<(), Fail> {
@@ -172,6 +172,9 @@ fn needed_depfiles_stay(rt: HostRuntime) -> Result<(), Fail> {
     assert!(rt; stays(&rt, &world, path.as_str(), b"a: b\n", 1, None)?);
     assert!(rt; stays(&rt, &world, path.as_str(), b"a: b\n", 1, Some(needed))?);
     world.take_outputs(set_of(rt.alloc(), &[path.as_bytes()])?);
+    let none = set_of(rt.alloc(), &[])?;
+    assert!(rt; stays(&rt, &world, path.as_str(), b"a: b\n", 1, Some(none))?);
+    world.take_outputs(set_of(rt.alloc(), &[folder.as_bytes()])?);
     let none = set_of(rt.alloc(), &[])?;
     assert!(rt; stays(&rt, &world, path.as_str(), b"a: b\n", 1, Some(none))?);
     drop(world);

@@ -99,7 +99,15 @@ fn entries_and_lists(rt: HostRuntime) -> Result<(), Fail> {
     let outputs = rows(rt.alloc(), &[b"a"])?;
     write_deps(&rt, folder.as_str(), &DEPS)?;
     let world = stricter_world_in(&rt, folder.as_str())?;
-    start_is(&rt, rt.alloc(), &world, b"false", false, &outputs, "exit 1")?;
+    start_is(
+        &rt,
+        rt.alloc(),
+        &world,
+        b"sleep 0.02; false",
+        false,
+        &outputs,
+        "exit 1",
+    )?;
     foreign_is(&rt, rt.alloc(), &world, b"a", false, &[b"h/x"])?;
     keep_is(&rt, rt.alloc(), &world, b"b/o", &none, "kept")?;
     foreign_is(&rt, rt.alloc(), &world, b"b/o", false, &[])?;
@@ -111,6 +119,81 @@ fn entries_and_lists(rt: HostRuntime) -> Result<(), Fail> {
     let world = stricter_world_in(&rt, folder.as_str())?;
     foreign_is(&rt, rt.alloc(), &world, b"b/o", true, &[b"h/x"])?;
     foreign_is(&rt, rt.alloc(), &world, b"b/o", false, &[b"h/x"])?;
+    drop(world);
+    remove(&rt, folder);
+    Ok(())
+}
+
+/// Keeps an entry with these paths of an output.
+fn keeps<W: World>(alloc: Global, world: &W, output: &[u8], paths: &[&[u8]]) -> Result<(), Fail> {
+    let paths = PathList::new(alloc, rows(alloc, paths)?)?;
+    let order = order_of(alloc, output, b"t", 7, &paths)?;
+    drop(world.keep(0, &order)?);
+    Ok(())
+}
+
+/// Checks that ninja's record names others if it names a path that the entry doesn't have, in whatever order.
+#[test]
+fn other_paths(rt: HostRuntime) -> Result<(), Fail> {
+    let folder = folder(&rt, "other_paths")?;
+    for (output, paths, are_others) in [
+        (
+            b"a".as_slice(),
+            [b"h/x".as_slice(), b"y".as_slice()].as_slice(),
+            false,
+        ),
+        (b"a", &[b"y", b"h/x"], false),
+        (b"a", &[b"z", b"h/x", b"z", b"y"], false),
+        (b"a", &[b"h/x", b"z"], true),
+        (b"b/o", &[b"y"], true),
+        (b"b/o", &[], true),
+        (b"y", &[], false),
+    ] {
+        let world = stricter_world_in(&rt, folder.as_str())?;
+        keeps(rt.alloc(), &world, output, paths)?;
+        drop(world);
+        write_deps(&rt, folder.as_str(), &DEPS)?;
+        let world = stricter_world_in(&rt, folder.as_str())?;
+        assert_eq!(rt; world.foreign_names_others(output)?, are_others);
+        drop(world);
+    }
+    remove(&rt, folder);
+    Ok(())
+}
+
+/// Checks that ninja's record names no others beside an entry that is later, beside a start entry, without an entry, and
+/// by the specified rule.
+#[test]
+fn no_other_paths(rt: HostRuntime) -> Result<(), Fail> {
+    let folder = folder(&rt, "no_other_paths")?;
+    write_deps(&rt, folder.as_str(), &DEPS)?;
+    let none = PathList::empty(rt.alloc())?;
+    let world = stricter_world_in(&rt, folder.as_str())?;
+    let outputs = rows(rt.alloc(), &[b"a"])?;
+    start_is(
+        &rt,
+        rt.alloc(),
+        &world,
+        b"sleep 0.02",
+        false,
+        &outputs,
+        "exit 0",
+    )?;
+    keep_is(&rt, rt.alloc(), &world, b"a", &none, "kept")?;
+    drop(world);
+    let world = stricter_world_in(&rt, folder.as_str())?;
+    assert!(rt; !world.foreign_names_others(b"a")?);
+    start_is(&rt, rt.alloc(), &world, b"false", false, &outputs, "exit 1")?;
+    drop(world);
+    write_deps(&rt, folder.as_str(), &DEPS)?;
+    let world = stricter_world_in(&rt, folder.as_str())?;
+    assert!(rt; !world.foreign_names_others(b"a")?);
+    assert!(rt; !world.foreign_names_others(b"b/o")?);
+    keep_is(&rt, rt.alloc(), &world, b"b/o", &none, "kept")?;
+    assert!(rt; world.foreign_names_others(b"b/o")?);
+    drop(world);
+    let world = world_in(&rt, folder.as_str())?;
+    assert!(rt; !world.foreign_names_others(b"b/o")?);
     drop(world);
     remove(&rt, folder);
     Ok(())

@@ -1,6 +1,6 @@
 use Rattle.std.proofs.Common.{refl, inl, inr, sym, subst, List, ℕ}
 use Rattle.plan_world.specs.Askable.{AreAskable}
-use Rattle.plan_world.proofs.world.replied_entry.Goals as goal
+use Rattle.plan_world.proofs.recalling.replied_entry.Goals as goal
 
 pub returns-then-are_askable : goal.returns-then-are_askable
 returns-then-are_askable c = inl (subst (λ (p : List (List ℕ)). AreAskable p) c.paths.ensures (c.are_askable.ensures.0 c.if-are_askable.true), refl)

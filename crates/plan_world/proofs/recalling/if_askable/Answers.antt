@@ -1,4 +1,4 @@
-use Rattle.plan_world.proofs.world.if_askable.Goals as goal
+use Rattle.plan_world.proofs.recalling.if_askable.Goals as goal
 
 pub returns-then-are_rows_askable-clause-askable :
     goal.returns-then-are_rows_askable-clause-askable

@@ -1,5 +1,5 @@
 use Rattle.plan_world.proofs.AnswerLemmas.{recalled_as}
-use Rattle.plan_world.proofs.world.recall_reply.Goals as goal
+use Rattle.plan_world.proofs.recalling.recall_reply.Goals as goal
 
 pub returns-in_ok-recorded_of-in-Some-clause-recalled :
     goal.returns-in_ok-recorded_of-in-Some-clause-recalled
