@@ -188,7 +188,11 @@ def run_otherwise(kind: str, builder: str, folder: pathlib.Path) -> None:
     file = "o/f" if kind == "folder" else "o"
     for program, word in ((other, "two"), (builder, "one"), (other, "two"), (builder, "two"), (builder, "one")):
         write(folder, edges[word])
-        expect(f"errors and status, {word}", ("", 0), built(program, folder)[1:])
+        listed = says(builder, folder, "-n") if program == builder else None
+        said = built(program, folder)
+        expect(f"errors and status, {word}", ("", 0), said[1:])
+        if listed:
+            expect("what a dry build lists", listed, said)
         expect("output", f"{word}\n", (folder / file).read_text())
         expect("the build after it", NOTHING, built(program, folder))
     (folder / "s").write_text("new\n")
