@@ -4,6 +4,7 @@ If ninja is installed, it gets the same words on the same files. Its status and 
 """
 from __future__ import annotations
 
+import contextlib
 import ctypes
 import functools
 import os
@@ -738,6 +739,15 @@ def console_reads_the_terminal(place: Place) -> None:
     expect("read", "hello\n", (place.folder / "a").read_text())
 
 
+def programs_of(group: int) -> list[str]:
+    """Returns the names of the programs that run in a process group."""
+    names = []
+    for process in group_of(group):
+        with contextlib.suppress(OSError):
+            names.append(pathlib.Path("/proc", str(process), "comm").read_text().strip())
+    return names
+
+
 def key_ends_all(key: bytes, number: int) -> Callable[[Place], None]:
     def trial(place: Place) -> None:
         """The key ends the program and its commands, and the next build runs them again."""
@@ -745,6 +755,8 @@ def key_ends_all(key: bytes, number: int) -> Callable[[Place], None]:
         terminal = Terminal(place, "-j", "2")
         try:
             place.begun("a", "b")
+            # A shell that forks while the key comes may lose the signal, and wait for its child to the end.
+            until(lambda: programs_of(terminal.job).count("sleep") == 2, "the commands don't sleep")
             terminal.types(key)
             expect("status", str(-number).encode(), terminal.reads(rb"<ended (-?\d+)>"))
             until(lambda: not group_of(terminal.job), "the commands don't end in time")
