@@ -53,8 +53,8 @@ impl Pause {
     }
 }
 
-/// Returns the first of these outputs that was written in a pause. Folders and symbolic links count only for an edge with
-/// `deps`, since their stamps change if other files do.
+/// Returns the first of these outputs that was written in a pause. Folders and symbolic links count only for an edge
+/// with `deps`, since their stamps change if other files do.
 fn first_written<'a, W: World>(
     world: &W,
     pause: &Pause,
@@ -103,8 +103,8 @@ pub(crate) fn forget<W: World>(
     world.forget(first, &words)
 }
 
-/// Ends the entry of an edge if one of these outputs of it was written in a pause, or last made by another edge. Returns
-/// whether the entry still counts.
+/// Ends the entry of an edge if one of these outputs of it was written in a pause, or last made by another edge.
+/// Returns whether the entry still counts.
 fn check_outputs<'a, W: World>(
     alloc: Global,
     world: &W,
@@ -147,8 +147,9 @@ fn check_generator<'a, W: World>(world: &W, edge: &EdgeRef<'a>) -> Result<(), Al
     }
 }
 
-/// Ends the entry of an edge if its outputs were written by something else. Returns whether the entry still counts. That
-/// of a generator counts: generators are also run by hand. But of one with `deps` nothing else says what it read then.
+/// Ends the entry of an edge if its outputs were written by something else. Returns whether the entry still counts.
+/// That of a generator counts: generators are also run by hand. But of one with `deps` nothing else says what it read
+/// then.
 fn check_all_outputs<'a, W: World>(
     alloc: Global,
     world: &W,
@@ -164,8 +165,8 @@ fn check_all_outputs<'a, W: World>(
     Ok(false)
 }
 
-/// Returns the first of these outputs that another builder made by another command than the entry of the edge with this
-/// first output has.
+/// Returns the first of these outputs that a command of another builder made after the last entry of the edge with this
+/// first output.
 fn first_of_another_command<'a, W: World>(
     world: &W,
     first: &[u8],
@@ -180,7 +181,7 @@ fn first_of_another_command<'a, W: World>(
     Ok(None)
 }
 
-/// Ends the entry of an edge if another builder made one of these outputs of it by another command. Returns whether the
+/// Ends the entry of an edge if a command of another builder made one of these outputs of it later. Returns whether the
 /// entry still counts.
 fn check_commands<'a, W: World>(
     alloc: Global,
@@ -214,8 +215,8 @@ fn check_read<'a, W: World>(
 }
 
 /// Ends the entry of an edge if it doesn't suit what another builder says of its own commands. The stamp of an output
-/// doesn't always show that it made it: a command may make a link, or date its output. The command of a generator may be
-/// another one.
+/// doesn't always show that it made it: a command may make a link, or date its output. The command of a generator may
+/// be another one.
 fn check_foreign<'a, W: World>(
     alloc: Global,
     world: &W,
@@ -291,10 +292,10 @@ impl Checks {
 ///
 /// - an output was written after the record was last written and before now, or before a command of this build began,
 ///   or it was last made by the command of another edge. Generators are also run by hand, so theirs count, and so do
-///   folders and symbolic links, except those of edges with `deps`: what their commands read is known only of those runs
-///   that the record has.
-/// - another builder says that it made an output by another command, or that its command read a file for an edge with
-///   `deps` that the entry doesn't have.
+///   folders and symbolic links, except those of edges with `deps`: what their commands read is known only of those
+///   runs that the record has.
+/// - another builder says that it made an output later, or that its command read a file for an edge with `deps` that the
+///   entry doesn't have.
 /// - a depfile that stands for itself is missing, or something else wrote it and it doesn't suit the entry.
 ///
 /// A generator with a depfile and without an entry runs.

@@ -92,8 +92,8 @@ pub trait World {
         Ok(None)
     }
 
-    /// Returns the paths that the record of another builder names for an output, except those that are not in a set: what
-    /// a command of that builder read. The set may say too often that it has a path. `is_recorded` says whether
+    /// Returns the paths that the record of another builder names for an output, except those that are not in a set:
+    /// what a command of that builder read. The set may say too often that it has a path. `is_recorded` says whether
     /// `recorded_among` returned paths for the output. If so, the other record counts only if it is as late as the
     /// record was when this build opened it. Returns None if the other record doesn't count or names nothing. A world
     /// that reads no records of other builders has none.
@@ -112,9 +112,9 @@ pub trait World {
         Ok(None)
     }
 
-    /// Checks whether the record of another builder names a path for an output that the last entry of the output doesn't
-    /// have: a command of that builder read another file. The other record counts only if it is as late as the record was
-    /// when this build opened it. A world that reads no records of other builders says no.
+    /// Checks whether the record of another builder names a path for an output that the last entry of the output
+    /// doesn't have: a command of that builder read another file. The other record counts only if it is as late as the
+    /// record was when this build opened it. A world that reads no records of other builders says no.
     ///
     /// # Errors
     /// `AllocError` if memory runs out.
@@ -122,9 +122,9 @@ pub trait World {
         Ok(false)
     }
 
-    /// Checks whether the record of another builder says that another command made an output than the last entry of its
-    /// edge, which has `first` as its first output. The other record counts as for `foreign_names_others`. A world that
-    /// reads no records of other builders says no.
+    /// Checks whether the record of another builder says that a command of that builder made an output after the last
+    /// entry of its edge, which has `first` as its first output. The other record counts only if it is later than the
+    /// record was when this build opened it. A world that reads no records of other builders says no.
     ///
     /// # Errors
     /// `AllocError` if memory runs out.

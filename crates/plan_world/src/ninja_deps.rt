@@ -1,9 +1,9 @@
 //! ninja's record of what its commands with `deps` read.
 //!
 //! ninja reads the depfile of such a command once and removes it (Ninja manual, "`deps`"). Then only the file
-//! `.ninja_deps` says what the command read. Its front is followed by records of 4-byte numbers, the lowest byte first. A
-//! record begins with its length. Those of paths number the paths from 0. Those of outputs have the number of an output,
-//! its stamp, and the numbers of the paths that its command read. The last one of an output counts.
+//! `.ninja_deps` says what the command read. Its front is followed by records of 4-byte numbers, the lowest byte first.
+//! A record begins with its length. Those of paths number the paths from 0. Those of outputs have the number of an
+//! output, its stamp, and the numbers of the paths that its command read. The last one of an output counts.
 
 use crate::askable::is_askable;
 use crate::fault::DeviceFault;
@@ -52,8 +52,8 @@ fn split_record(bytes: &[u8]) -> Option<(DepsRecord<'_>, &[u8])> {
     Some((DepsRecord { is_output, bytes }, rest.get(len..)?))
 }
 
-/// Returns the path in a record, without the NUL bytes that fill up its last number. Returns None unless the record ends
-/// with the check sum of the path's number.
+/// Returns the path in a record, without the NUL bytes that fill up its last number. Returns None unless the record
+/// ends with the check sum of the path's number.
 fn path_of(bytes: &[u8], number: usize) -> Option<&[u8]> {
     let len = bytes.len().checked_sub(4)?;
     let number = u32::try_from(number).ok()?;
@@ -247,8 +247,8 @@ impl NinjaDeps {
         Ok(found)
     }
 
-    /// Checks whether the file names a path for the output of an entry that the entry doesn't have. A file that can't be
-    /// read names none.
+    /// Checks whether the file names a path for the output of an entry that the entry doesn't have. A file that can't
+    /// be read names none.
     pub(crate) fn names_others<R: Files + Wait>(
         &self,
         rt: &R,

@@ -2,8 +2,8 @@
 //!
 //! A line of the file `.ninja_log` has the begin and the end of a command in milliseconds, a stamp, an output, and the
 //! hash of the command, with tabs between them. The last line of an output counts. The first line names the version, on
-//! which the hash depends. Lines of this project's builders have the begin and the end 0: first one with the hash 0, and
-//! in a log of version 5 another one with the hash of the command.
+//! which the hash depends. Lines of this project's builders have the begin and the end 0: first one with the hash 0,
+//! and in a log of version 5 another one with the hash of the command.
 
 use crate::fault::DeviceFault;
 use crate::ninja_file::NinjaFile;
@@ -60,8 +60,8 @@ fn number_of(digits: &[u8]) -> Option<u64> {
     Some(number)
 }
 
-/// Returns the output of a line, and what the line says of its command. Returns None if the line is torn. `is_known` says
-/// whether the hashes of the log are those of `hash_of`.
+/// Returns the output of a line, and what the line says of its command. Returns None if the line is torn. `is_known`
+/// says whether the hashes of the log are those of `hash_of`.
 fn output_in(line: &[u8], is_known: bool) -> Option<(&[u8], LastCommand)> {
     let mut fields = line.split(|byte| *byte == b'\t');
     let (begin, end, _stamp) = (fields.next()?, fields.next()?, fields.next()?);
@@ -129,8 +129,8 @@ impl NinjaRuns {
         &self.file
     }
 
-    /// Returns what the log says of the command that made an output last. Returns None if it names none. A log that can't
-    /// be read names none.
+    /// Returns what the log says of the command that made an output last. Returns None if it names none. A log that
+    /// can't be read names none.
     pub(crate) fn last<R: Files + Wait>(
         &self,
         rt: &R,

@@ -73,8 +73,8 @@ impl<R: Files + Env + Clock + Eprint + AllocGlobal, S, D> RealWorld<R, S, D>
 where
     R::File: Read + Write + Seek + OpenFile + SharedFile + Drop,
 {
-    /// Opens the world of a runtime, of shells and of files, with the record at this path. Creates an empty record if it is
-    /// missing. Its folder must exist. A record that may not be written is only read.
+    /// Opens the world of a runtime, of shells and of files, with the record at this path. Creates an empty record if
+    /// it is missing. Its folder must exist. A record that may not be written is only read.
     ///
     /// Waits while another builder uses the record, or a command of a builder that was killed, and reports that on
     /// standard error after a second. A builder that was started by a command of that builder doesn't wait.
@@ -210,8 +210,8 @@ where
     }
 }
 
-/// Returns a record that was opened, with sets for the paths of a manifest. If it couldn't be opened, reports the reason
-/// on standard error.
+/// Returns a record that was opened, with sets for the paths of a manifest. If it couldn't be opened, reports the
+/// reason on standard error.
 fn with_paths<R: Eprint + AllocGlobal, F: Drop>(
     rt: &R,
     record: &str,
@@ -455,8 +455,8 @@ where
         record.keep_edge(self.rt.alloc(), order, basis_from(begin, order.basis()))
     }
 
-    /// Marks the outputs of an edge as made in ninja's log, if its command ran in this build. Its entry is kept after that:
-    /// the log is later than the record only if ninja wrote in it.
+    /// Marks the outputs of an edge as made in ninja's log, if its command ran in this build. Its entry is kept after
+    /// that: the log is later than the record only if ninja wrote in it.
     fn end_for_ninja(&self, order: &KeepOrder, begin: Option<u64>) {
         if let (Some(begins), Some(begin)) = (&self.begins, begin) {
             begins
@@ -581,7 +581,8 @@ where
         }
     }
 
-    /// Returns the paths that ninja's record names for an output and that may be in a set. Returns None if it names none.
+    /// Returns the paths that ninja's record names for an output and that may be in a set. Returns None if it names
+    /// none.
     fn named_by_ninja(
         &self,
         output: &[u8],
@@ -666,15 +667,17 @@ where
         }
     }
 
-    /// Lets all depfiles stay if a stamp can't be determined: an edge fails then, although it may have read its depfile.
+    /// Lets all depfiles stay if a stamp can't be determined: an edge fails then, although it may have read its
+    /// depfile.
     fn note_fault(&self, reply: &Result<Reply, AllocError>) {
         if let Ok(Reply::Fault) = reply {
             self.depfiles.keep_all();
         }
     }
 
-    /// Notes that an edge has read a depfile, if this is a world of the stricter rule. If the depfile is missing or names
-    /// nothing, appends a start entry for its path. If it names something, it may be removed when the build has ended.
+    /// Notes that an edge has read a depfile, if this is a world of the stricter rule. If the depfile is missing or
+    /// names nothing, appends a start entry for its path. If it names something, it may be removed when the build has
+    /// ended.
     fn note_read(&self, number: u64, path: &[u8], reply: &Result<Reply, AllocError>) {
         if number == 0 || self.begins.is_none() {
             return;
@@ -864,8 +867,8 @@ where
         self.manifest.take_others(&self.rt, others);
     }
 
-    /// Leaves all depfiles if an entry couldn't be kept in this build, or a stamp couldn't be determined: an edge may have
-    /// failed after its depfile was read, which says what it depends on. Leaves files that can't be removed.
+    /// Leaves all depfiles if an entry couldn't be kept in this build, or a stamp couldn't be determined: an edge may
+    /// have failed after its depfile was read, which says what it depends on. Leaves files that can't be removed.
     fn remove_depfiles(&self) {
         self.depfiles.remove(&self.rt, &self.manifest);
     }

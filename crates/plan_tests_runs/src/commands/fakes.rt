@@ -302,8 +302,8 @@ impl World for Touched {
 }
 
 /// A world in which another builder may have built `out`: `in` has the stamp 7, all other files are symbolic links with
-/// the stamp 9, and each edge has an entry with the command `cc in -o out`, the basis 7 and the path `in`, until an entry
-/// is ended. Commands succeed.
+/// the stamp 9, and each edge has an entry with the command `cc in -o out`, the basis 7 and the path `in`, until an
+/// entry is ended. Commands succeed.
 #[derive(Drop)]
 pub struct Shared {
     pub alloc: Global,

@@ -161,8 +161,8 @@ fn depfiles_are_removed(rt: HostRuntime) -> Result<(), Fail> {
     Ok(())
 }
 
-/// Checks that files stay that the manifest needs, those in a folder that an edge makes, and all of them if nothing is known of the manifest, or by the
-/// specified rule.
+/// Checks that files stay that the manifest needs, those in a folder that an edge makes, and all of them if nothing is
+/// known of the manifest, or by the specified rule.
 #[test]
 fn needed_depfiles_stay(rt: HostRuntime) -> Result<(), Fail> {
     let folder = folder(&rt, "needed_depfiles")?;

@@ -161,8 +161,8 @@ fn other_paths(rt: HostRuntime) -> Result<(), Fail> {
     Ok(())
 }
 
-/// Checks that ninja's record names no others beside an entry that is later, beside a start entry, without an entry, and
-/// by the specified rule.
+/// Checks that ninja's record names no others beside an entry that is later, beside a start entry, without an entry,
+/// and by the specified rule.
 #[test]
 fn no_other_paths(rt: HostRuntime) -> Result<(), Fail> {
     let folder = folder(&rt, "no_other_paths")?;

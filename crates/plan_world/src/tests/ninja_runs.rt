@@ -7,8 +7,8 @@ use crate::ninja_log::hash_of;
 /// The first line of a log of version 5.
 const FIRST: &str = "# ninja log v5";
 
-/// Writes ninja's log in a folder: its first line; lines of ninja of `a`, `b` and `c`; lines of this builder of `a`, `c`
-/// and `e`, of which that of `e` has the hash of another command than `t`; and a torn line.
+/// Writes ninja's log in a folder: its first line; lines of ninja of `a`, `b` and `c`; lines of this builder of `a`,
+/// `c` and `e`, of which that of `e` has the hash of another command than `t`; and a torn line.
 fn write_log(rt: &HostRuntime, folder: &str, first: &str) -> Result<(), Fail> {
     let path = format!(in rt.alloc(); "{folder}/.ninja_log")?;
     let (t, other) = (hash_of(b"t"), hash_of(b"other"));
